@@ -1,0 +1,11 @@
+-- What is asked of the numbers of a session, and the limit of noise that follows from them.
+use Rattle.std.specs.Prelude.{ℕ, zero, suc, ◌+◌, ◌-◌, ◌*◌, ◌/◌, ◌%◌, Bool, true, not, nat_eq, ◌&&◌}
+
+-- none of 2, 3, .., k + 1 divides q, so q has no common divisor above 1 with any of them
+unfoldable pub indivisible : ℕ → ℕ → Bool
+indivisible q zero = true
+indivisible q (suc k) = indivisible q k && not (nat_eq (q % (k + 2)) 0)
+
+-- the greatest size of noise under which decryption modulo t gives the plaintext
+abbrev pub noise_limit : ℕ → ℕ → ℕ
+noise_limit q t = (q - 1 - 2 * (q % t) * (t - 1)) / (2 * t)

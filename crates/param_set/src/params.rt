@@ -1,0 +1,131 @@
+ghost use Rattle.std.specs.Prelude.{◌≡◌, ℕ, ◌*◌, ◌/◌, ◌%◌, ◌^◌, ◌<◌, ◌≤◌, IsTrue};
+ghost use Rattle.std.specs.Int.{is_power_of_two};
+ghost use Rattle.param_set.specs.Numbers.{indivisible, noise_limit};
+
+/// The checked numbers of a session.
+///
+/// Ring: R_q = Z_q\[X\]/(X^n+1), plaintexts modulo t. Noise: small draws within `err`, the flood of a
+/// decryption within `flood`. Sharing: any `threshold` of `parties` parties act together.
+#[derive(Clone, Copy)]
+pub struct Params {
+    n: u64,
+    q: u64,
+    t: u64,
+    digit_bits: u64,
+    err: u64,
+    flood: u64,
+    parties: u64,
+    threshold: u64,
+    pub ghost degree: { (8 ≤ n) × (n ≤ 4096) × IsTrue (is_power_of_two n) },
+    pub ghost modulus: { (2 ^ 40 ≤ q) × (q < 2 ^ 55) × (q % (2 * n) ≡ 1) },
+    pub ghost no_small_factor: { IsTrue (indivisible q 31) },
+    pub ghost plain_modulus: { (2 ≤ t) × (t ≤ 65537) },
+    pub ghost noise: { (1 ≤ digit_bits) × (digit_bits ≤ 16) × (1 ≤ err) × (err ≤ 255) × (flood ≤ 2 ^ 40) },
+    pub ghost group: { (1 ≤ threshold) × (threshold ≤ parties) × (parties ≤ 32) },
+}
+
+impl Params {
+    /// The frame of the first scripts: n = 8, q = 7 * 2^52 + 1, t = 16, digits of 8 bits, and noise
+    /// and flood within 1, for `threshold` of `parties` parties.
+    pub fn frame(parties: u64, threshold: u64) -> Params
+        requires at_least_one { 1 ≤ threshold }
+        requires threshold_of_all { threshold ≤ parties }
+        requires at_most_32 { parties ≤ 32 }
+        ensures n { result.n ≡ 8 }
+        ensures q { result.q ≡ 31525197391593473 }
+        ensures t { result.t ≡ 16 }
+        ensures digit_bits { result.digit_bits ≡ 8 }
+        ensures err { result.err ≡ 1 }
+        ensures flood { result.flood ≡ 1 }
+        ensures parties { result.parties ≡ parties }
+        ensures threshold { result.threshold ≡ threshold }
+    {
+        Params {
+            n: 8,
+            q: 31_525_197_391_593_473,
+            t: 16,
+            digit_bits: 8,
+            err: 1,
+            flood: 1,
+            parties,
+            threshold,
+        }
+    }
+
+    /// The number of coefficients of a polynomial, a power of two.
+    pub fn n(&self) -> u64
+        ensures { result ≡ self.now.n }
+    {
+        self.n
+    }
+
+    /// The modulus of ciphertexts.
+    pub fn q(&self) -> u64
+        ensures { result ≡ self.now.q }
+    {
+        self.q
+    }
+
+    /// The modulus of plaintexts.
+    pub fn t(&self) -> u64
+        ensures { result ≡ self.now.t }
+    {
+        self.t
+    }
+
+    /// The bits of a digit of the gadget.
+    pub fn digit_bits(&self) -> u64
+        ensures { result ≡ self.now.digit_bits }
+    {
+        self.digit_bits
+    }
+
+    /// The bound of small draws.
+    pub fn err(&self) -> u64
+        ensures { result ≡ self.now.err }
+    {
+        self.err
+    }
+
+    /// The bound of the wide draws that flood a decryption share.
+    pub fn flood(&self) -> u64
+        ensures { result ≡ self.now.flood }
+    {
+        self.flood
+    }
+
+    /// N, the number of parties that hold the secret.
+    pub fn parties(&self) -> u64
+        ensures { result ≡ self.now.parties }
+    {
+        self.parties
+    }
+
+    /// T, how many parties act together.
+    pub fn threshold(&self) -> u64
+        ensures { result ≡ self.now.threshold }
+    {
+        self.threshold
+    }
+
+    /// D = floor(q/t), by which a plaintext is scaled.
+    pub fn delta(&self) -> u64
+        ensures { result ≡ self.now.q / self.now.t }
+    {
+        self.q / self.t
+    }
+
+    /// r = q mod t.
+    pub fn rem(&self) -> u64
+        ensures { result ≡ self.now.q % self.now.t }
+    {
+        self.q % self.t
+    }
+
+    /// L, the greatest size of noise under which decryption gives the plaintext.
+    pub fn limit(&self) -> u64
+        ensures { result ≡ noise_limit self.now.q self.now.t }
+    {
+        (self.q - 1 - 2 * self.rem() * (self.t - 1)) / (2 * self.t)
+    }
+}
