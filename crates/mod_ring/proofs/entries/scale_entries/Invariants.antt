@@ -1,0 +1,8 @@
+use Rattle.std.proofs.Common.{pos}
+use Rattle.ring_spec.specs.Ring.{residue, times, coefficient}
+use Rattle.mod_ring.proofs.Filled.{Filled}
+use Rattle.mod_ring.proofs.entries.scale_entries.Given as goal
+
+abbrev pub invariant-loop-i : goal.invariant-loop-i
+invariant-loop-i l =
+    Filled (λ k. residue l.q (times (pos l.k) (coefficient l.initial.acc) k)) l.initial.acc l.acc l.i

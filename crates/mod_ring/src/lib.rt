@@ -1,0 +1,20 @@
+//! Polynomials of the ring R_q = Z_q[X]/(X^n+1), and the pairs of them that ciphertexts and public
+//! keys are.
+//!
+//! A `Poly` has n coefficients, each a residue from 0 to q - 1, lowest degree first, and contracts
+//! see it as that list. Each operation gives the value that the ring's definition gives (Fan and
+//! Vercauteren 2012, section 2), and what it gives back is a polynomial of the ring again. Every call
+//! has the condition that the polynomials which it takes fit the ring. Nothing is said of time.
+#![tactic(auto)]
+
+mod entries;
+mod pairs;
+mod poly;
+mod products;
+mod ring;
+mod signs;
+
+pub use pairs::{Ciphertext, PublicKey};
+pub use poly::{Poly, Polys};
+pub use ring::{Ring, add_into, mul, neg_into, of_residues, of_signed, scale_into, sub_into, zero};
+pub use signs::{centre, residue_of};

@@ -1,0 +1,118 @@
+ghost use Rattle.std.specs.Prelude.{◌≡◌, ℕ, ◌<◌, length, map, replicate, IfOk};
+ghost use Rattle.ring_spec.specs.Ring.{IsPoly, residue, residues, signed, ring_sum, ring_difference, ring_negative, ring_multiple, ring_product};
+
+use crate::entries::{add_entries, neg_entries, scale_entries, sub_entries};
+use crate::poly::Poly;
+use crate::products::product;
+use crate::signs::residue_of;
+use param_set::Params;
+use std::alloc::{AllocError, Global};
+
+/// The ring of some parameters, in which polynomials have n coefficients below q.
+#[derive(Drop)]
+pub struct Ring {
+    params: Params,
+}
+
+impl Ring {
+    /// The ring R_q of the parameters.
+    pub fn new(_alloc: Global, params: &Params) -> Result<Ring, AllocError>
+        ensures { IfOk result (λ ring. ring.params ≡ params.now) }
+    {
+        Ok(Ring { params: *params })
+    }
+
+    /// The parameters of the ring.
+    pub fn params(&self) -> &Params
+        ensures { result.now ≡ self.now.params }
+    {
+        &self.params
+    }
+}
+
+/// The zero polynomial.
+pub fn zero(alloc: Global, ring: &Ring) -> Result<Poly, AllocError>
+    ensures value { IfOk result (λ f. f ≡ replicate ring.now.params.n 0) }
+    ensures fits { IfOk result (λ f. IsPoly ring.now.params.q ring.now.params.n f) }
+{
+    let coeffs = vec![in alloc; 0; ring.params.n() as usize]?;
+    Ok(Poly { coeffs })
+}
+
+/// The residue of each of some whole numbers.
+fn residues_of(alloc: Global, q: u64, coeffs: &[i64]) -> Result<Vec<u64>, AllocError>
+    requires { 0 < q }
+    ensures { IfOk result (λ v. v.items ≡ map (residue q) coeffs.now) }
+{
+    coeffs.iter().map(|x| residue_of(q, *x)).collect(alloc)
+}
+
+/// The residues of n whole numbers.
+#[tactic(auto, using(crate::proofs::Fits::signed_ones))]
+pub fn of_signed(alloc: Global, ring: &Ring, coeffs: &[i64]) -> Result<Poly, AllocError>
+    requires { length coeffs.now ≡ ring.now.params.n }
+    ensures value { IfOk result (λ f. f ≡ residues ring.now.params.q ring.now.params.n (signed coeffs.now)) }
+    ensures fits { IfOk result (λ f. IsPoly ring.now.params.q ring.now.params.n f) }
+{
+    let coeffs = residues_of(alloc, ring.params.q(), coeffs)?;
+    Ok(Poly { coeffs })
+}
+
+/// Takes over a list of n residues.
+pub fn of_residues(_params: &Params, values: Vec<u64>) -> Poly
+    requires { IsPoly _params.now.q _params.now.n values.items }
+    ensures { result ≡ values.items }
+{
+    Poly { coeffs: values }
+}
+
+/// Adds f to acc.
+pub fn add_into(ring: &Ring, acc: &mut Poly, f: &Poly)
+    requires left { IsPoly ring.now.params.q ring.now.params.n acc.old }
+    requires right { IsPoly ring.now.params.q ring.now.params.n f.now }
+    ensures value { acc.new ≡ ring_sum ring.now.params.q ring.now.params.n acc.old f.now }
+    ensures fits { IsPoly ring.now.params.q ring.now.params.n acc.new }
+{
+    add_entries(ring.params.q(), acc.coeffs.as_mut_slice(), f.coeffs());
+}
+
+/// Subtracts f from acc.
+pub fn sub_into(ring: &Ring, acc: &mut Poly, f: &Poly)
+    requires left { IsPoly ring.now.params.q ring.now.params.n acc.old }
+    requires right { IsPoly ring.now.params.q ring.now.params.n f.now }
+    ensures value { acc.new ≡ ring_difference ring.now.params.q ring.now.params.n acc.old f.now }
+    ensures fits { IsPoly ring.now.params.q ring.now.params.n acc.new }
+{
+    sub_entries(ring.params.q(), acc.coeffs.as_mut_slice(), f.coeffs());
+}
+
+/// Makes acc its negative.
+pub fn neg_into(ring: &Ring, acc: &mut Poly)
+    requires { IsPoly ring.now.params.q ring.now.params.n acc.old }
+    ensures value { acc.new ≡ ring_negative ring.now.params.q ring.now.params.n acc.old }
+    ensures fits { IsPoly ring.now.params.q ring.now.params.n acc.new }
+{
+    neg_entries(ring.params.q(), acc.coeffs.as_mut_slice());
+}
+
+/// Multiplies acc by a number below q.
+pub fn scale_into(ring: &Ring, acc: &mut Poly, k: u64)
+    requires poly { IsPoly ring.now.params.q ring.now.params.n acc.old }
+    requires factor { k < ring.now.params.q }
+    ensures value { acc.new ≡ ring_multiple ring.now.params.q ring.now.params.n k acc.old }
+    ensures fits { IsPoly ring.now.params.q ring.now.params.n acc.new }
+{
+    scale_entries(ring.params.q(), acc.coeffs.as_mut_slice(), k);
+}
+
+/// The product of f and g.
+#[tactic(auto, using(crate::proofs::Fits::fits))]
+pub fn mul(alloc: Global, ring: &Ring, f: &Poly, g: &Poly) -> Result<Poly, AllocError>
+    requires left { IsPoly ring.now.params.q ring.now.params.n f.now }
+    requires right { IsPoly ring.now.params.q ring.now.params.n g.now }
+    ensures value { IfOk result (λ h. h ≡ ring_product ring.now.params.q ring.now.params.n f.now g.now) }
+    ensures fits { IfOk result (λ h. IsPoly ring.now.params.q ring.now.params.n h) }
+{
+    let coeffs = product(alloc, ring.params.q(), f.coeffs(), g.coeffs())?;
+    Ok(Poly { coeffs })
+}
