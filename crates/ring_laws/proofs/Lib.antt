@@ -1,0 +1,6 @@
+pub mod Integers
+pub mod Totals
+pub mod Products
+pub mod Associates
+pub mod Congruences
+pub mod Residues
