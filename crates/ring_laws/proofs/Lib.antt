@@ -4,3 +4,5 @@ pub mod Products
 pub mod Associates
 pub mod Congruences
 pub mod Residues
+pub mod Rings
+pub mod Sizes
