@@ -6,3 +6,5 @@ pub mod Congruences
 pub mod Residues
 pub mod Rings
 pub mod Sizes
+pub mod Powers
+pub mod Turns
