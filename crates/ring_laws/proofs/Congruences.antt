@@ -1,12 +1,11 @@
 -- Whole numbers modulo q: what sums, products and residues make of numbers that agree.
-use Rattle.std.proofs.Common.{◌≡◌, ℕ, zero, suc, ◌+◌, ◌-◌, ◌*◌, ◌/◌, ◌%◌, ◌≤◌, ◌<◌, cond, refl, sym, ap, ◌∙◌, subst, inl, inr, arith}
+use Rattle.std.proofs.Common.{◌≡◌, ℕ, zero, suc, ◌+◌, ◌-◌, ◌/◌, ◌<◌, refl, sym, ap, ◌∙◌, inl, inr, arith}
 use Rattle.std.specs.Prelude.{ℤ, pos, negsuc, ◌+ℤ◌, ◌-ℤ◌, ◌*ℤ◌, neg_ℤ}
 use Rattle.std.proofs.lemmas.Bool.{cases_lt}
-use Rattle.ring_spec.specs.Ring.{total, wrapped, residue, plus, minus, negated, times, turned, moved}
+use Rattle.ring_spec.specs.Ring.{total, wrapped, residue, plus, minus, negated, times}
 use Rattle.ring_laws.specs.Congruence.{IsCongruent, Agree}
-use Rattle.ring_laws.proofs.Integers.{sums, times_sum, sum_times, times_times, times_commutes, negative_times, times_negative, times_zero, zero_times}
+use Rattle.ring_laws.proofs.Integers.{sums, times_sum, times_times, times_commutes, times_negative, times_zero}
 use Rattle.ring_laws.proofs.Products.{shifted, shifted_low, shifted_high, wrapped_is}
-use borrow.Author.Differences.{product_is}
 
 -- ---- numbers
 
@@ -38,7 +37,7 @@ pub congruent_times : {q : ℕ} {z w : ℤ} (x : ℤ) → IsCongruent q z w → 
 congruent_times {q} {z} {w} x c = record {
   k = x *ℤ c.k;
   is = ap (λ (y : ℤ). x *ℤ y) c.is ∙ times_sum x w (pos q *ℤ c.k)
-    ∙ ap (λ (y : ℤ). x *ℤ w +ℤ y) (sym (times_times x (pos q) c.k) ∙ ap (λ (y : ℤ). y *ℤ c.k) (times_commutes x (pos q)) ∙ times_times (pos q) x c.k);
+      ∙ ap (λ (y : ℤ). x *ℤ w +ℤ y) (sym (times_times x (pos q) c.k) ∙ ap (λ (y : ℤ). y *ℤ c.k) (times_commutes x (pos q)) ∙ times_times (pos q) x c.k);
 }
 
 pub congruent_product : {q : ℕ} {z w x y : ℤ} → IsCongruent q z w → IsCongruent q x y → IsCongruent q (z *ℤ x) (w *ℤ y)
@@ -118,17 +117,18 @@ agree_times z c = record { each = λ i l. congruent_times z (c.each i l) }
 
 shifted_congruent : {q n : ℕ} {b d : ℕ → ℤ} (i k : ℕ) → i < n → k < n → Agree q n b d → IsCongruent q (shifted n i b k) (shifted n i d k)
 shifted_congruent {q} {n} {b} {d} i k h l c = elim (cases_lt k i) [
-    inl p ↦ congruent_chain (congruent_equal q (shifted n i b k) (neg_ℤ (b (k + n - i))) (shifted_high n i b k p))
+  | inl p ↦ congruent_chain (congruent_equal q (shifted n i b k) (neg_ℤ (b (k + n - i))) (shifted_high n i b k p))
       (congruent_chain (congruent_negative (c.each (k + n - i) (omega arith))) (congruent_equal q (neg_ℤ (d (k + n - i))) (shifted n i d k) (sym (shifted_high n i d k p))))
   | inr p ↦ congruent_chain (congruent_equal q (shifted n i b k) (b (k - i)) (shifted_low n i b k p))
-      (congruent_chain (c.each (k - i) (omega arith)) (congruent_equal q (d (k - i)) (shifted n i d k) (sym (shifted_low n i d k p)))) ]
+      (congruent_chain (c.each (k - i) (omega arith)) (congruent_equal q (d (k - i)) (shifted n i d k) (sym (shifted_low n i d k p))))
+]
 
 -- a product of polynomials that agree
 pub agree_product : {q n : ℕ} {a b c d : ℕ → ℤ} → Agree q n a c → Agree q n b d → Agree q n (wrapped n a b) (wrapped n c d)
 agree_product {q} {n} {a} {b} {c} {d} ac bd = record {
   each = λ k h.
-    congruent_chain (congruent_equal q (wrapped n a b k) (total n (λ i. a i *ℤ shifted n i b k)) (wrapped_is n a b k))
-    (congruent_chain
+      congruent_chain (congruent_equal q (wrapped n a b k) (total n (λ i. a i *ℤ shifted n i b k)) (wrapped_is n a b k))
+      (congruent_chain
       (total_congruent q n (λ i. a i *ℤ shifted n i b k) (λ i. c i *ℤ shifted n i d k) (λ i l. congruent_product (ac.each i l) (shifted_congruent i k l h bd)))
       (congruent_equal q (total n (λ i. c i *ℤ shifted n i d k)) (wrapped n c d k) (sym (wrapped_is n c d k))));
 }

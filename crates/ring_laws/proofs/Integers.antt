@@ -1,6 +1,6 @@
 -- The laws of + and * on whole numbers that the others are built from.
-use Rattle.std.proofs.Common.{◌≡◌, ℕ, ◌+◌, ◌*◌, ◌≤◌, ◌<◌, refl, sym, ap, ◌∙◌, arith}
-use Rattle.std.specs.Prelude.{ℤ, pos, negsuc, ◌+ℤ◌, ◌-ℤ◌, ◌*ℤ◌, neg_ℤ, unsigned_abs}
+use Rattle.std.proofs.Common.{◌≡◌, ℕ, ◌+◌, ◌*◌, ◌≤◌, ap, ◌∙◌, arith}
+use Rattle.std.specs.Prelude.{ℤ, pos, ◌+ℤ◌, ◌*ℤ◌, neg_ℤ, unsigned_abs}
 use borrow.Author.Differences.{up, down, same_out, same_in, sum_is_lem, neg_is, product_is, abs_is, ints}
 use lib.IntN.{*ℤ_comm, zero-*ℤ}
 
@@ -20,10 +20,19 @@ sum_times a b c =
 -- a product is associative
 pub times_times : (a b c : ℤ) → (a *ℤ b) *ℤ c ≡ a *ℤ (b *ℤ c)
 times_times a b c =
-    omega (arith, sums, product_is, ap (λ (n : ℕ). n * up c) (product_is a b).0, ap (λ (n : ℕ). n * up c) (product_is a b).1,
-        ap (λ (n : ℕ). n * down c) (product_is a b).0, ap (λ (n : ℕ). n * down c) (product_is a b).1,
-        ap (λ (n : ℕ). up a * n) (product_is b c).0, ap (λ (n : ℕ). up a * n) (product_is b c).1,
-        ap (λ (n : ℕ). down a * n) (product_is b c).0, ap (λ (n : ℕ). down a * n) (product_is b c).1)
+    omega (
+      arith,
+      sums,
+      product_is,
+      ap (λ (n : ℕ). n * up c) (product_is a b).0,
+      ap (λ (n : ℕ). n * up c) (product_is a b).1,
+      ap (λ (n : ℕ). n * down c) (product_is a b).0,
+      ap (λ (n : ℕ). n * down c) (product_is a b).1,
+      ap (λ (n : ℕ). up a * n) (product_is b c).0,
+      ap (λ (n : ℕ). up a * n) (product_is b c).1,
+      ap (λ (n : ℕ). down a * n) (product_is b c).0,
+      ap (λ (n : ℕ). down a * n) (product_is b c).1,
+    )
 
 -- a product is commutative
 pub times_commutes : (a b : ℤ) → a *ℤ b ≡ b *ℤ a
@@ -32,8 +41,15 @@ times_commutes a b = *ℤ_comm a b
 -- a sign passes out of a product on either side
 pub negative_times : (a b : ℤ) → neg_ℤ a *ℤ b ≡ neg_ℤ (a *ℤ b)
 negative_times a b =
-    omega (arith, sums, product_is, ap (λ (n : ℕ). n * up b) (neg_is a).0, ap (λ (n : ℕ). n * up b) (neg_is a).1,
-        ap (λ (n : ℕ). n * down b) (neg_is a).0, ap (λ (n : ℕ). n * down b) (neg_is a).1)
+    omega (
+      arith,
+      sums,
+      product_is,
+      ap (λ (n : ℕ). n * up b) (neg_is a).0,
+      ap (λ (n : ℕ). n * up b) (neg_is a).1,
+      ap (λ (n : ℕ). n * down b) (neg_is a).0,
+      ap (λ (n : ℕ). n * down b) (neg_is a).1,
+    )
 
 pub times_negative : (a b : ℤ) → a *ℤ neg_ℤ b ≡ neg_ℤ (a *ℤ b)
 times_negative a b = times_commutes a (neg_ℤ b) ∙ negative_times b a ∙ ap neg_ℤ (times_commutes b a)

@@ -8,3 +8,4 @@ pub mod Rings
 pub mod Sizes
 pub mod Powers
 pub mod Turns
+pub mod TurnSizes

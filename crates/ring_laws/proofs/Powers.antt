@@ -1,10 +1,10 @@
 -- The powers of X, whose exponents count modulo 2n.
-use Rattle.std.proofs.Common.{◌≡◌, ℕ, zero, suc, ◌+◌, ◌-◌, ◌*◌, ◌/◌, ◌%◌, ◌≤◌, ◌<◌, cond, refl, sym, ap, ◌∙◌, subst, ◌⊎◌, inl, inr, arith}
+use Rattle.std.proofs.Common.{◌≡◌, ℕ, zero, suc, ◌+◌, ◌-◌, ◌*◌, ◌/◌, ◌%◌, ◌<◌, cond, refl, sym, ap, ◌∙◌, ◌⊎◌, inl, inr, arith}
 use Rattle.std.specs.Prelude.{ℤ, pos, negsuc, ◌+ℤ◌, ◌*ℤ◌, neg_ℤ, nat_eq}
 use Rattle.std.proofs.lemmas.Bool.{cases_lt, cases_eq, cond-true, cond-false, eq-eqb, ne_eqb}
 use Rattle.std.proofs.lemmas.Nat.{mod-mul-add}
-use Rattle.ring_spec.specs.Ring.{total, wrapped}
-use Rattle.ring_laws.proofs.Integers.{sums, times_zero, zero_times, one_times}
+use Rattle.ring_spec.specs.Ring.{wrapped}
+use Rattle.ring_laws.proofs.Integers.{sums, zero_times, one_times}
 use Rattle.ring_laws.proofs.Totals.{total_same, total_zero, total_first}
 use Rattle.ring_laws.proofs.Products.{shifted, shifted_low, shifted_high, shifted_same, wrapped_is, wrapped_same}
 use Rattle.ring_laws.proofs.Associates.{shifted_none, one_shifted}
@@ -33,10 +33,12 @@ unit_none n r k e e' =
 -- two units that are one, minus one and nothing together are equal
 same_unit : (n r k : ℕ) (z : ℤ) → 0 < n → (r ≡ k → z ≡ pos 1) → (r ≡ k + n → z ≡ negsuc 0) → ((r ≡ k → ⊥) → (r ≡ k + n → ⊥) → z ≡ pos 0) → unit n r k ≡ z
 same_unit n r k z h one minus none = elim (cases_eq r k) [
-    inl e ↦ unit_one n r k e ∙ sym (one e)
+  | inl e ↦ unit_one n r k e ∙ sym (one e)
   | inr ne ↦ elim (cases_eq r (k + n)) [
-      inl e ↦ unit_minus n r k h e ∙ sym (minus e)
-    | inr ne' ↦ unit_none n r k ne ne' ∙ sym (none ne ne') ] ]
+    | inl e ↦ unit_minus n r k h e ∙ sym (minus e)
+    | inr ne' ↦ unit_none n r k ne ne' ∙ sym (none ne ne')
+  ]
+]
 
 -- X times X^r, where r + 1 is below 2n or comes back to 0
 unit_next : (n r s k : ℕ) → k < n → r < 2 * n → ((s ≡ r + 1) × (r + 1 < 2 * n)) ⊎ ((s ≡ 0) × (r + 1 ≡ 2 * n)) → unit n s k ≡ shifted n 1 (unit n r) k
@@ -64,8 +66,9 @@ unit_next n r s (suc k) h l (inr e) =
 -- the remainder of the next number
 remainder_next : (p m : ℕ) → 0 < m → ((suc p % m ≡ p % m + 1) × (p % m + 1 < m)) ⊎ ((suc p % m ≡ 0) × (p % m + 1 ≡ m))
 remainder_next p m h = elim (cases_lt (p % m + 1) m) [
-    inl l ↦ inl (ap (λ (x : ℕ). x % m) (omega (arith, h)) ∙ mod-mul-add (p / m) m (p % m + 1) l, l)
-  | inr l ↦ inr (ap (λ (x : ℕ). x % m) (omega (arith, h)) ∙ mod-mul-add (p / m + 1) m 0 h, omega arith) ]
+  | inl l ↦ inl (ap (λ (x : ℕ). x % m) (omega (arith, h)) ∙ mod-mul-add (p / m) m (p % m + 1) l, l)
+  | inr l ↦ inr (ap (λ (x : ℕ). x % m) (omega (arith, h)) ∙ mod-mul-add (p / m + 1) m 0 h, omega arith)
+]
 
 -- X^(p+1) is X times X^p
 pub power_next : (n p k : ℕ) → k < n → power n (suc p) k ≡ shifted n 1 (power n p) k
@@ -79,9 +82,9 @@ power_zero (suc m) b k h =
     wrapped_is (suc m) (power (suc m) 0) b k
     ∙ total_first m (λ i. power (suc m) 0 i *ℤ shifted (suc m) i b k)
     ∙ ap (λ (z : ℤ). power (suc m) 0 0 *ℤ shifted (suc m) 0 b k +ℤ z)
-      (total_same m (λ i. power (suc m) 0 (suc i) *ℤ shifted (suc m) (suc i) b k) (λ i. pos 0)
-        (λ i l. ap (λ (z : ℤ). z *ℤ shifted (suc m) (suc i) b k) (unit_none (suc m) (0 % (2 * suc m)) (suc i) (λ e. omega arith) (λ e. omega arith)) ∙ zero_times (shifted (suc m) (suc i) b k))
-       ∙ total_zero m)
+    (total_same m (λ i. power (suc m) 0 (suc i) *ℤ shifted (suc m) (suc i) b k) (λ i. pos 0)
+    (λ i l. ap (λ (z : ℤ). z *ℤ shifted (suc m) (suc i) b k) (unit_none (suc m) (0 % (2 * suc m)) (suc i) (λ e. omega arith) (λ e. omega arith)) ∙ zero_times (shifted (suc m) (suc i) b k))
+    ∙ total_zero m)
     ∙ ap (λ (z : ℤ). z *ℤ shifted (suc m) 0 b k +ℤ pos 0) (unit_one (suc m) (0 % (2 * suc m)) 0 r)
     ∙ ap (λ (z : ℤ). pos 1 *ℤ z +ℤ pos 0) (shifted_none (suc m) b k)
     ∙ omega (arith, sums, one_times (b k))
@@ -99,8 +102,8 @@ power_sum n (suc p) r k h =
 pub power_half : (n g k : ℕ) → k < n → g % 2 ≡ 1 → power n (n * g) k ≡ neg_ℤ (power n 0 k)
 power_half n g k h odd =
     let e : n * g % (2 * n) ≡ n =
-        ap (λ (x : ℕ). x % (2 * n)) (ap (λ (x : ℕ). n * x) (let e' : g ≡ 2 * (g / 2) + 1 = omega arith in e') ∙ (let e'' : n * (2 * (g / 2) + 1) ≡ g / 2 * (2 * n) + n = omega arith in e''))
-        ∙ mod-mul-add (g / 2) (2 * n) n (omega arith) in
+    ap (λ (x : ℕ). x % (2 * n)) (ap (λ (x : ℕ). n * x) (let e' : g ≡ 2 * (g / 2) + 1 = omega arith in e') ∙ (let e'' : n * (2 * (g / 2) + 1) ≡ g / 2 * (2 * n) + n = omega arith in e''))
+    ∙ mod-mul-add (g / 2) (2 * n) n (omega arith) in
     let r : 0 % (2 * n) ≡ 0 = omega arith in
     same_unit n (n * g % (2 * n)) k (neg_ℤ (power n 0 k)) (omega arith)
     (λ e'. absurd (omega arith))

@@ -1,9 +1,9 @@
 -- The product of polynomials with n coefficients over the whole numbers, where X^n is -1.
-use Rattle.std.proofs.Common.{◌≡◌, ℕ, zero, suc, ◌+◌, ◌-◌, ◌*◌, ◌≤◌, ◌<◌, cond, refl, sym, ap, ◌∙◌, subst, inl, inr, arith}
-use Rattle.std.specs.Prelude.{ℤ, pos, negsuc, ◌+ℤ◌, ◌-ℤ◌, ◌*ℤ◌, neg_ℤ, unsigned_abs, nat_le}
+use Rattle.std.proofs.Common.{◌≡◌, ℕ, ◌+◌, ◌-◌, ◌≤◌, ◌<◌, cond, sym, ap, ◌∙◌, inl, inr, arith}
+use Rattle.std.specs.Prelude.{ℤ, pos, ◌+ℤ◌, ◌-ℤ◌, ◌*ℤ◌, neg_ℤ, nat_le}
 use Rattle.std.proofs.lemmas.Bool.{cases_lt, cond-true, cond-false, le-leb, lt-leb}
 use Rattle.ring_spec.specs.Ring.{total, wrapped, term, plus, minus, negated, times}
-use Rattle.ring_laws.proofs.Integers.{sums, times_sum, sum_times, times_times, times_commutes, negative_times, times_negative, times_zero, zero_times, abs_sum}
+use Rattle.ring_laws.proofs.Integers.{sum_times, times_times, times_commutes, negative_times, times_negative, zero_times}
 use Rattle.ring_laws.proofs.Totals.{total_same, total_sum, total_times, total_negative, total_zero, total_split, total_reverse}
 
 -- coefficient k of X^i times b, for i up to n and k below n
@@ -21,16 +21,18 @@ shifted_high n i b k h = cond-false (nat_le i k) (b (k - i)) (neg_ℤ (b (k + n 
 -- X^i times b goes by the coefficients below n alone
 pub shifted_same : (n i : ℕ) (b c : ℕ → ℤ) (k : ℕ) → i ≤ n → k < n → ((j : ℕ) → j < n → b j ≡ c j) → shifted n i b k ≡ shifted n i c k
 shifted_same n i b c k l h e = elim (cases_lt k i) [
-    inl p ↦ shifted_high n i b k p ∙ ap neg_ℤ (e (k + n - i) (omega arith)) ∙ sym (shifted_high n i c k p)
-  | inr p ↦ shifted_low n i b k p ∙ e (k - i) (omega arith) ∙ sym (shifted_low n i c k p) ]
+  | inl p ↦ shifted_high n i b k p ∙ ap neg_ℤ (e (k + n - i) (omega arith)) ∙ sym (shifted_high n i c k p)
+  | inr p ↦ shifted_low n i b k p ∙ e (k - i) (omega arith) ∙ sym (shifted_low n i c k p)
+]
 
 -- a term of a product is a_i times X^i times b
 pub term_is : (n : ℕ) (a b : ℕ → ℤ) (k i : ℕ) → term n a b k i ≡ a i *ℤ shifted n i b k
 term_is n a b k i = elim (cases_lt k i) [
-    inl p ↦ cond-false (nat_le i k) (a i *ℤ b (k - i)) (neg_ℤ (a i *ℤ b (k + n - i))) (lt-leb i k p)
+  | inl p ↦ cond-false (nat_le i k) (a i *ℤ b (k - i)) (neg_ℤ (a i *ℤ b (k + n - i))) (lt-leb i k p)
       ∙ sym (times_negative (a i) (b (k + n - i))) ∙ ap (λ (z : ℤ). a i *ℤ z) (sym (shifted_high n i b k p))
   | inr p ↦ cond-true (nat_le i k) (a i *ℤ b (k - i)) (neg_ℤ (a i *ℤ b (k + n - i))) (le-leb i k p)
-      ∙ ap (λ (z : ℤ). a i *ℤ z) (sym (shifted_low n i b k p)) ]
+      ∙ ap (λ (z : ℤ). a i *ℤ z) (sym (shifted_low n i b k p))
+]
 
 -- a product is the sum of a_i times X^i times b
 pub wrapped_is : (n : ℕ) (a b : ℕ → ℤ) (k : ℕ) → wrapped n a b k ≡ total n (λ i. a i *ℤ shifted n i b k)
@@ -50,12 +52,12 @@ unfolding wrapped
 two_sums n a b k h =
     let e : n ≡ (k + 1) + (n - 1 - k) = omega arith in
     let low : total (k + 1) (term n a b k) ≡ total (k + 1) (λ i. a i *ℤ b (k - i)) =
-        total_same (k + 1) (term n a b k) (λ i. a i *ℤ b (k - i))
-        (λ i l. cond-true (nat_le i k) (a i *ℤ b (k - i)) (neg_ℤ (a i *ℤ b (k + n - i))) (le-leb i k (omega arith))) in
+    total_same (k + 1) (term n a b k) (λ i. a i *ℤ b (k - i))
+    (λ i l. cond-true (nat_le i k) (a i *ℤ b (k - i)) (neg_ℤ (a i *ℤ b (k + n - i))) (le-leb i k (omega arith))) in
     let high : total (n - 1 - k) (λ j. term n a b k (k + 1 + j)) ≡ total (n - 1 - k) (λ j. neg_ℤ (a (k + 1 + j) *ℤ b (n - 1 - j))) =
-        total_same (n - 1 - k) (λ j. term n a b k (k + 1 + j)) (λ j. neg_ℤ (a (k + 1 + j) *ℤ b (n - 1 - j)))
-        (λ j l. cond-false (nat_le (k + 1 + j) k) (a (k + 1 + j) *ℤ b (k - (k + 1 + j))) (neg_ℤ (a (k + 1 + j) *ℤ b (k + n - (k + 1 + j)))) (lt-leb (k + 1 + j) k (omega arith))
-            ∙ ap (λ (x : ℕ). neg_ℤ (a (k + 1 + j) *ℤ b x)) (omega arith)) in
+    total_same (n - 1 - k) (λ j. term n a b k (k + 1 + j)) (λ j. neg_ℤ (a (k + 1 + j) *ℤ b (n - 1 - j)))
+    (λ j l. cond-false (nat_le (k + 1 + j) k) (a (k + 1 + j) *ℤ b (k - (k + 1 + j))) (neg_ℤ (a (k + 1 + j) *ℤ b (k + n - (k + 1 + j)))) (lt-leb (k + 1 + j) k (omega arith))
+    ∙ ap (λ (x : ℕ). neg_ℤ (a (k + 1 + j) *ℤ b x)) (omega arith)) in
     ap (λ (m : ℕ). total m (term n a b k)) e ∙ total_split (k + 1) (n - 1 - k) (term n a b k)
     ∙ ap (λ (z : ℤ). z +ℤ total (n - 1 - k) (λ j. term n a b k (k + 1 + j))) low
     ∙ ap (λ (z : ℤ). total (k + 1) (λ i. a i *ℤ b (k - i)) +ℤ z) (high ∙ total_negative (n - 1 - k) (λ j. a (k + 1 + j) *ℤ b (n - 1 - j)))
@@ -64,13 +66,13 @@ two_sums n a b k h =
 pub wrapped_commutes : (n : ℕ) (a b : ℕ → ℤ) (k : ℕ) → k < n → wrapped n a b k ≡ wrapped n b a k
 wrapped_commutes n a b k h =
     let low : total (k + 1) (λ i. a i *ℤ b (k - i)) ≡ total (k + 1) (λ i. b i *ℤ a (k - i)) =
-        total_reverse (k + 1) (λ i. a i *ℤ b (k - i))
-        ∙ total_same (k + 1) (λ i. a (k + 1 - 1 - i) *ℤ b (k - (k + 1 - 1 - i))) (λ i. b i *ℤ a (k - i))
-        (λ i l. times_commutes (a (k + 1 - 1 - i)) (b (k - (k + 1 - 1 - i))) ∙ ap (λ (x : ℕ). b x *ℤ a (k + 1 - 1 - i)) (omega arith) ∙ ap (λ (x : ℕ). b i *ℤ a x) (omega arith)) in
+    total_reverse (k + 1) (λ i. a i *ℤ b (k - i))
+    ∙ total_same (k + 1) (λ i. a (k + 1 - 1 - i) *ℤ b (k - (k + 1 - 1 - i))) (λ i. b i *ℤ a (k - i))
+    (λ i l. times_commutes (a (k + 1 - 1 - i)) (b (k - (k + 1 - 1 - i))) ∙ ap (λ (x : ℕ). b x *ℤ a (k + 1 - 1 - i)) (omega arith) ∙ ap (λ (x : ℕ). b i *ℤ a x) (omega arith)) in
     let high : total (n - 1 - k) (λ j. a (k + 1 + j) *ℤ b (n - 1 - j)) ≡ total (n - 1 - k) (λ j. b (k + 1 + j) *ℤ a (n - 1 - j)) =
-        total_reverse (n - 1 - k) (λ j. a (k + 1 + j) *ℤ b (n - 1 - j))
-        ∙ total_same (n - 1 - k) (λ j. a (k + 1 + (n - 1 - k - 1 - j)) *ℤ b (n - 1 - (n - 1 - k - 1 - j))) (λ j. b (k + 1 + j) *ℤ a (n - 1 - j))
-        (λ j l. times_commutes (a (k + 1 + (n - 1 - k - 1 - j))) (b (n - 1 - (n - 1 - k - 1 - j))) ∙ ap (λ (x : ℕ). b x *ℤ a (k + 1 + (n - 1 - k - 1 - j))) (omega arith) ∙ ap (λ (x : ℕ). b (k + 1 + j) *ℤ a x) (omega arith)) in
+    total_reverse (n - 1 - k) (λ j. a (k + 1 + j) *ℤ b (n - 1 - j))
+    ∙ total_same (n - 1 - k) (λ j. a (k + 1 + (n - 1 - k - 1 - j)) *ℤ b (n - 1 - (n - 1 - k - 1 - j))) (λ j. b (k + 1 + j) *ℤ a (n - 1 - j))
+    (λ j l. times_commutes (a (k + 1 + (n - 1 - k - 1 - j))) (b (n - 1 - (n - 1 - k - 1 - j))) ∙ ap (λ (x : ℕ). b x *ℤ a (k + 1 + (n - 1 - k - 1 - j))) (omega arith) ∙ ap (λ (x : ℕ). b (k + 1 + j) *ℤ a x) (omega arith)) in
     two_sums n a b k h ∙ ap (λ (z : ℤ). z -ℤ total (n - 1 - k) (λ j. a (k + 1 + j) *ℤ b (n - 1 - j))) low
     ∙ ap (λ (z : ℤ). total (k + 1) (λ i. b i *ℤ a (k - i)) -ℤ z) high ∙ sym (two_sums n b a k h)
 

@@ -1,13 +1,12 @@
 -- Lists of residues: a ring operation on the residues of polynomials gives the residues of what the
 -- operation gives over the whole numbers.
-use Rattle.std.proofs.Common.{◌≡◌, ℕ, zero, suc, ◌+◌, ◌-◌, ◌*◌, ◌≤◌, ◌<◌, List, map, length, get_or, refl, sym, ap, ◌∙◌, subst, arith}
-use Rattle.std.specs.Prelude.{ℤ, pos, ◌+ℤ◌, ◌-ℤ◌, ◌*ℤ◌, neg_ℤ, All}
-use Rattle.std.specs.List.{range_with_len}
+use Rattle.std.proofs.Common.{◌≡◌, ℕ, ◌<◌, List, length, get_or, sym, ap, ◌∙◌, arith}
+use Rattle.std.specs.Prelude.{ℤ, pos}
 use Rattle.std.proofs.lemmas.List.FromFn.{length-map-range_with_len, get_or-map-range_with_len, fill_by_all}
 use Rattle.std.proofs.lemmas.List.Elements.{All-from_get_or, All-get_or}
 use Rattle.ring_spec.specs.Ring.{wrapped, residue, residues, plus, minus, negated, times, coefficient, IsPoly, ring_sum, ring_difference, ring_negative, ring_multiple, ring_product}
-use Rattle.ring_laws.specs.Congruence.{IsCongruent, Agree}
-use Rattle.ring_laws.proofs.Congruences.{residue_below, residue_congruent, residue_same, residue_itself, congruent_equal, congruent_chain, agree_equal, agree_self, agree_sum, agree_difference, agree_negative, agree_times, agree_product}
+use Rattle.ring_laws.specs.Congruence.{Agree}
+use Rattle.ring_laws.proofs.Congruences.{residue_below, residue_congruent, residue_same, residue_itself, congruent_equal, congruent_chain, agree_sum, agree_difference, agree_negative, agree_times, agree_product}
 
 -- ---- the list of the residues of a polynomial
 
@@ -31,7 +30,7 @@ pub residues_poly : (q n : ℕ) (a : ℕ → ℤ) → 0 < q → IsPoly q n (resi
 residues_poly q n a h = record {
   entries = length_residues q n a;
   below = All-from_get_or (λ x. x < q) (residues q n a) 0
-    (λ i l. let l' : i < n = omega (arith, length_residues q n a) in rw (residues_at q n a i l') (residue_below q (a i) h));
+      (λ i l. let l' : i < n = omega (arith, length_residues q n a) in rw (residues_at q n a i l') (residue_below q (a i) h));
 }
 
 -- polynomials that agree modulo q have the same residues

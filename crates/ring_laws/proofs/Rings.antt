@@ -1,14 +1,14 @@
 -- The laws of the ring on lists of residues. An expression of ring operations has coefficients that
 -- agree with the same expression over the whole numbers, so two expressions are equal where those are.
-use Rattle.std.proofs.Common.{◌≡◌, ℕ, zero, suc, ◌+◌, ◌-◌, ◌*◌, ◌≤◌, ◌<◌, List, refl, sym, ap, ◌∙◌, arith}
-use Rattle.std.specs.Prelude.{ℤ, pos, ◌+ℤ◌, ◌-ℤ◌, ◌*ℤ◌, neg_ℤ}
+use Rattle.std.proofs.Common.{◌≡◌, ℕ, ◌*◌, ◌<◌, List, refl, sym, ap, ◌∙◌, arith}
+use Rattle.std.specs.Prelude.{ℤ, pos}
 use Rattle.ring_spec.specs.Ring.{wrapped, residues, plus, minus, negated, times, coefficient, IsPoly, ring_sum, ring_difference, ring_negative, ring_multiple, ring_product}
 use Rattle.ring_laws.specs.Congruence.{Agree}
-use Rattle.ring_laws.proofs.Integers.{sums, times_sum, times_times, times_commutes, times_negative, sum_times}
-use Rattle.ring_laws.proofs.Products.{wrapped_commutes, wrapped_sum_left, wrapped_sum_right, wrapped_difference_left, wrapped_difference_right, wrapped_negative_left, wrapped_negative_right, wrapped_times_left, wrapped_times_right, wrapped_zero_left}
+use Rattle.ring_laws.proofs.Integers.{sums, times_sum, times_times}
+use Rattle.ring_laws.proofs.Products.{wrapped_commutes, wrapped_sum_left, wrapped_difference_left, wrapped_negative_left, wrapped_times_left}
 use Rattle.ring_laws.proofs.Associates.{wrapped_associates}
 use Rattle.ring_laws.proofs.Congruences.{agree_equal, agree_self, agree_back, agree_chain, agree_sum, agree_difference, agree_negative, agree_times, agree_product}
-use Rattle.ring_laws.proofs.Residues.{residues_equal, residues_poly, coefficients_agree, same_polys, sum_poly, difference_poly, negative_poly, multiple_poly, product_poly}
+use Rattle.ring_laws.proofs.Residues.{residues_equal, coefficients_agree, same_polys, sum_poly, difference_poly, negative_poly, multiple_poly, product_poly}
 
 -- ---- the coefficients of an expression
 

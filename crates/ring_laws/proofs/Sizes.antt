@@ -1,19 +1,19 @@
 -- Sizes: the greatest absolute value among the centres of a list of residues.
-use Rattle.std.proofs.Common.{◌≡◌, ℕ, zero, suc, ◌+◌, ◌-◌, ◌*◌, ◌≤◌, ◌<◌, List, [], ◌∷◌, map, length, get_or, cond, refl, sym, ap, ◌∙◌, subst, inl, inr, arith}
-use Rattle.std.specs.Prelude.{ℤ, pos, negsuc, ◌+ℤ◌, ◌-ℤ◌, ◌*ℤ◌, neg_ℤ, unsigned_abs, nat_lt, max}
+use Rattle.std.proofs.Common.{◌≡◌, ℕ, zero, suc, ◌+◌, ◌-◌, ◌*◌, ◌≤◌, ◌<◌, List, [], ◌∷◌, map, length, get_or, sym, ◌∙◌, inl, inr, arith}
+use Rattle.std.specs.Prelude.{ℤ, pos, negsuc, ◌+ℤ◌, ◌-ℤ◌, ◌*ℤ◌, unsigned_abs, nat_lt}
 use Rattle.std.proofs.lemmas.Bool.{cases_lt, cond-true, cond-false, lt-ltb, le-ltb}
 use Rattle.std.proofs.lemmas.Int.{unsigned_abs-mul}
 use Rattle.std.proofs.lemmas.Nat.{mul-le}
 use Rattle.std.proofs.lemmas.List.{get_or-map, length-map}
-use Rattle.ring_spec.specs.Ring.{total, wrapped, centre, residues, plus, minus, negated, times, coefficient, greatest, centres, size, IsWithin, IsPoly, ring_sum, ring_difference, ring_negative, ring_multiple, ring_product}
+use Rattle.ring_spec.specs.Ring.{total, wrapped, centre, residues, plus, minus, negated, times, coefficient, greatest, size, IsWithin, IsPoly, ring_sum, ring_difference, ring_negative, ring_multiple, ring_product}
 use Rattle.ring_laws.specs.Congruence.{IsCongruent, Agree, centred}
-use Rattle.ring_laws.proofs.Integers.{sums, times_negative, times_zero, abs_sum, abs_negative}
+use Rattle.ring_laws.proofs.Integers.{sums, times_negative, abs_sum, abs_negative}
 use Rattle.ring_laws.proofs.Totals.{total_within}
 use Rattle.ring_laws.proofs.Products.{shifted, shifted_low, shifted_high, wrapped_is}
-use Rattle.ring_laws.proofs.Congruences.{congruent_equal, congruent_chain, congruent_back, agree_self, agree_back, agree_chain}
+use Rattle.ring_laws.proofs.Congruences.{congruent_equal, congruent_back}
 use Rattle.ring_laws.proofs.Residues.{residues_poly, residues_same, residues_coefficient, coefficients_agree, entry_below, sum_poly, difference_poly, negative_poly, multiple_poly, product_poly}
 use Rattle.ring_laws.proofs.Rings.{sum_agrees, difference_agrees, negative_agrees, multiple_agrees, product_agrees}
-use borrow.Author.Differences.{up, down, ints}
+use borrow.Author.Differences.{ints}
 
 -- ---- polynomials over the whole numbers
 
@@ -35,16 +35,17 @@ within_more n v w a l h i p = omega (arith, h i p)
 
 shifted_within : (n w i : ℕ) (b : ℕ → ℤ) (k : ℕ) → i < n → k < n → IsWithin n w b → unsigned_abs (shifted n i b k) ≤ w
 shifted_within n w i b k p r h = elim (cases_lt k i) [
-    inl l ↦ rw (shifted_high n i b k l, abs_negative) (h (k + n - i) (omega arith))
-  | inr l ↦ rw (shifted_low n i b k l) (h (k - i) (omega arith)) ]
+  | inl l ↦ rw (shifted_high n i b k l, abs_negative) (h (k + n - i) (omega arith))
+  | inr l ↦ rw (shifted_low n i b k l) (h (k - i) (omega arith))
+]
 
 -- a product of n terms for each coefficient
 pub within_product : (n v w : ℕ) (a b : ℕ → ℤ) → IsWithin n v a → IsWithin n w b → IsWithin n (n * v * w) (wrapped n a b)
 within_product n v w a b h l k p =
     rw (wrapped_is n a b k)
     (let e : unsigned_abs (total n (λ i. a i *ℤ shifted n i b k)) ≤ n * (v * w) =
-        total_within n (v * w) (λ i. a i *ℤ shifted n i b k)
-        (λ i r. omega (arith, unsigned_abs-mul (a i) (shifted n i b k), mul-le (unsigned_abs (a i)) (unsigned_abs (shifted n i b k)) v w (h i r) (shifted_within n w i b k r p l))) in
+    total_within n (v * w) (λ i. a i *ℤ shifted n i b k)
+    (λ i r. omega (arith, unsigned_abs-mul (a i) (shifted n i b k), mul-le (unsigned_abs (a i)) (unsigned_abs (shifted n i b k)) v w (h i r) (shifted_within n w i b k r p l))) in
     omega arith)
 
 -- ---- centres
@@ -53,19 +54,22 @@ within_product n v w a b h l k p =
 pub centre_congruent : (q x : ℕ) → IsCongruent q (centre q x) (pos x)
 unfolding centre
 centre_congruent q x = elim (cases_lt (2 * x) q) [
-    inl l ↦ congruent_equal q (centre q x) (pos x) (cond-true (nat_lt (2 * x) q) (pos x) (pos x -ℤ pos q) (lt-ltb (2 * x) q l))
-  | inr l ↦ record { k = negsuc 0; is = cond-false (nat_lt (2 * x) q) (pos x) (pos x -ℤ pos q) (le-ltb (2 * x) q l) ∙ omega (arith, sums, times_negative (pos q) (pos 1)) } ]
+  | inl l ↦ congruent_equal q (centre q x) (pos x) (cond-true (nat_lt (2 * x) q) (pos x) (pos x -ℤ pos q) (lt-ltb (2 * x) q l))
+  | inr l ↦ record { k = negsuc 0; is = cond-false (nat_lt (2 * x) q) (pos x) (pos x -ℤ pos q) (le-ltb (2 * x) q l) ∙ omega (arith, sums, times_negative (pos q) (pos 1)) }
+]
 
 -- no number of the same residue is less in absolute value
 least : (q x : ℕ) (k z : ℤ) → x < q → z ≡ pos x +ℤ pos q *ℤ k → unsigned_abs (centre q x) ≤ unsigned_abs z
 unfolding centre
 least q x k z h e = elim (cases_lt (2 * x) q) [
-    inl l ↦ rw (cond-true (nat_lt (2 * x) q) (pos x) (pos x -ℤ pos q) (lt-ltb (2 * x) q l)) (near q x k z l e)
-  | inr l ↦ rw (cond-false (nat_lt (2 * x) q) (pos x) (pos x -ℤ pos q) (le-ltb (2 * x) q l)) (far q x k z h l e) ]
+  | inl l ↦ rw (cond-true (nat_lt (2 * x) q) (pos x) (pos x -ℤ pos q) (lt-ltb (2 * x) q l)) (near q x k z l e)
+  | inr l ↦ rw (cond-false (nat_lt (2 * x) q) (pos x) (pos x -ℤ pos q) (le-ltb (2 * x) q l)) (far q x k z h l e)
+]
   where
     near : (q x : ℕ) (k z : ℤ) → 2 * x < q → z ≡ pos x +ℤ pos q *ℤ k → x ≤ unsigned_abs z
     near q x (pos k) z l e = omega (arith, ints, e)
     near q x (negsuc k) z l e = omega (arith, ints, e, times_negative (pos q) (pos (suc k)))
+
     far : (q x : ℕ) (k z : ℤ) → x < q → q ≤ 2 * x → z ≡ pos x +ℤ pos q *ℤ k → unsigned_abs (pos x -ℤ pos q) ≤ unsigned_abs z
     far q x (pos k) z h l e = omega (arith, ints, e)
     far q x (negsuc k) z h l e = omega (arith, ints, e, times_negative (pos q) (pos (suc k)))
@@ -117,7 +121,7 @@ pub size_within : {q n : ℕ} (v : ℕ) (f : List ℕ) (a : ℕ → ℤ) → IsP
 size_within {q} {n} v f a p c h =
     size_from q f v
     (λ i l. let l' : i < n = omega (arith, p.entries) in
-        omega (arith, h i l', centre_least q (get_or f i 0) (a i) (entry_below q n f i p l') (congruent_back (c.each i l'))))
+    omega (arith, h i l', centre_least q (get_or f i 0) (a i) (entry_below q n f i p l') (congruent_back (c.each i l'))))
 
 -- the residues of a polynomial within v have size at most v
 pub size_residues : (q n v : ℕ) (a : ℕ → ℤ) → 0 < q → IsWithin n v a → size q (residues q n a) ≤ v

@@ -1,9 +1,8 @@
 -- Sums f 0 + .. + f (n - 1) of whole numbers.
-use Rattle.std.proofs.Common.{◌≡◌, ℕ, zero, suc, ◌+◌, ◌-◌, ◌*◌, ◌≤◌, ◌<◌, refl, sym, ap, ◌∙◌, subst, arith}
-use Rattle.std.specs.Prelude.{ℤ, pos, negsuc, ◌+ℤ◌, ◌-ℤ◌, ◌*ℤ◌, neg_ℤ, unsigned_abs}
+use Rattle.std.proofs.Common.{◌≡◌, ℕ, zero, suc, ◌+◌, ◌-◌, ◌*◌, ◌≤◌, ◌<◌, refl, sym, ap, ◌∙◌, arith}
+use Rattle.std.specs.Prelude.{ℤ, pos, ◌+ℤ◌, ◌*ℤ◌, neg_ℤ, unsigned_abs}
 use Rattle.ring_spec.specs.Ring.{total}
 use Rattle.ring_laws.proofs.Integers.{sums, times_sum, times_zero, abs_sum}
-use borrow.Author.Differences.{up, down, ints}
 
 -- terms that are equal below n give equal sums
 pub total_same : (n : ℕ) (f g : ℕ → ℤ) → ((i : ℕ) → i < n → f i ≡ g i) → total n f ≡ total n g
@@ -62,7 +61,7 @@ unfolding total
 total_reverse zero f = refl
 total_reverse (suc n) f =
     let e : total n (λ i. f (suc n - 1 - suc i)) ≡ total n (λ i. f (n - 1 - i)) =
-        total_same n (λ i. f (suc n - 1 - suc i)) (λ i. f (n - 1 - i)) (λ i l. ap f (omega arith)) in
+    total_same n (λ i. f (suc n - 1 - suc i)) (λ i. f (n - 1 - i)) (λ i l. ap f (omega arith)) in
     let e' : f (suc n - 1 - 0) ≡ f n = ap f (omega arith) in
     let e'' : total (suc n) (λ i. f (suc n - 1 - i)) ≡ f (suc n - 1 - 0) +ℤ total n (λ i. f (suc n - 1 - suc i)) = total_first n (λ i. f (suc n - 1 - i)) in
     rw (total_reverse n f) (sym (e'' ∙ ap (λ (z : ℤ). z +ℤ total n (λ i. f (suc n - 1 - suc i))) e' ∙ ap (λ (z : ℤ). f n +ℤ z) e ∙ omega (arith, sums)))

@@ -1,14 +1,14 @@
 -- The map that takes X to X^g for g odd: it respects the ring's operations, and a size does not grow.
-use Rattle.std.proofs.Common.{◌≡◌, ℕ, zero, suc, ◌+◌, ◌-◌, ◌*◌, ◌/◌, ◌%◌, ◌^◌, ◌≤◌, ◌<◌, List, cond, refl, sym, ap, ◌∙◌, subst, inl, inr, arith}
-use Rattle.std.specs.Prelude.{ℤ, pos, negsuc, ◌+ℤ◌, ◌-ℤ◌, ◌*ℤ◌, neg_ℤ, nat_eq, unsigned_abs}
+use Rattle.std.proofs.Common.{◌≡◌, ℕ, zero, suc, ◌+◌, ◌*◌, ◌%◌, ◌≤◌, ◌<◌, List, cond, refl, sym, ap, ◌∙◌, inl, inr, arith}
+use Rattle.std.specs.Prelude.{ℤ, pos, ◌+ℤ◌, ◌*ℤ◌, neg_ℤ, nat_eq}
 use Rattle.std.proofs.lemmas.Bool.{cases_eq, cond-true, cond-false, eq-eqb, ne_eqb}
-use Rattle.ring_spec.specs.Ring.{total, wrapped, turned, moved, plus, minus, negated, times, coefficient, residues, IsPoly, IsWithin, size, ring_turned, ring_sum, ring_product}
-use Rattle.ring_laws.specs.Congruence.{IsCongruent, Agree, centred}
-use Rattle.ring_laws.proofs.Integers.{sums, sum_times, times_sum, times_times, times_commutes, negative_times, times_negative, times_zero, one_times}
-use Rattle.ring_laws.proofs.Totals.{total_same, total_sum, total_times, total_negative, total_zero, total_first, total_swap}
-use Rattle.ring_laws.proofs.Products.{shifted, shifted_low, shifted_high, shifted_same, wrapped_is, wrapped_same, wrapped_commutes}
+use Rattle.ring_spec.specs.Ring.{total, wrapped, turned, moved, plus, negated, times, coefficient, residues, IsPoly, ring_turned, ring_sum, ring_product}
+use Rattle.ring_laws.specs.Congruence.{Agree}
+use Rattle.ring_laws.proofs.Integers.{sums, sum_times, times_times, times_commutes, negative_times, times_negative, times_zero, one_times}
+use Rattle.ring_laws.proofs.Totals.{total_same, total_sum, total_times, total_negative, total_first, total_swap}
+use Rattle.ring_laws.proofs.Products.{shifted, shifted_low, shifted_high, wrapped_is, wrapped_same, wrapped_commutes}
 use Rattle.ring_laws.proofs.Associates.{shifted_next, shifted_none, wrapped_associates, wrapped_total}
-use Rattle.ring_laws.proofs.Powers.{unit, power, unit_one, unit_minus, unit_none, power_next, power_zero, power_sum, power_half}
+use Rattle.ring_laws.proofs.Powers.{power, unit_one, unit_minus, unit_none, power_zero, power_sum, power_half}
 use Rattle.ring_laws.proofs.Congruences.{congruent_equal, congruent_chain, congruent_product, congruent_self, total_congruent, agree_self, agree_chain}
 use Rattle.ring_laws.proofs.Residues.{residues_poly, residues_same, coefficients_agree, sum_poly, product_poly}
 use Rattle.ring_laws.proofs.Rings.{by_coefficients, sum_agrees, product_agrees}
@@ -18,14 +18,16 @@ moved_is : (n g : ℕ) (a : ℕ → ℤ) (k i : ℕ) → k < n → moved n g a k
 moved_is n g a k i h =
     let r = i * g % (2 * n) in
     elim (cases_eq r k) [
-      inl e ↦ cond-true (nat_eq r k) (a i) (cond (nat_eq r (k + n)) (neg_ℤ (a i)) (pos 0)) (eq-eqb r k e)
-        ∙ sym (ap (λ (z : ℤ). a i *ℤ z) (unit_one n r k e) ∙ times_commutes (a i) (pos 1) ∙ one_times (a i))
-    | inr ne ↦ cond-false (nat_eq r k) (a i) (cond (nat_eq r (k + n)) (neg_ℤ (a i)) (pos 0)) (ne_eqb r k ne)
-        ∙ (elim (cases_eq r (k + n)) [
-            inl e ↦ cond-true (nat_eq r (k + n)) (neg_ℤ (a i)) (pos 0) (eq-eqb r (k + n) e)
-              ∙ sym (ap (λ (z : ℤ). a i *ℤ z) (unit_minus n r k (omega arith) e) ∙ times_negative (a i) (pos 1) ∙ ap neg_ℤ (times_commutes (a i) (pos 1) ∙ one_times (a i)))
-          | inr ne' ↦ cond-false (nat_eq r (k + n)) (neg_ℤ (a i)) (pos 0) (ne_eqb r (k + n) ne')
-              ∙ sym (ap (λ (z : ℤ). a i *ℤ z) (unit_none n r k ne ne') ∙ times_zero (a i)) ]) ]
+      | inl e ↦ cond-true (nat_eq r k) (a i) (cond (nat_eq r (k + n)) (neg_ℤ (a i)) (pos 0)) (eq-eqb r k e)
+          ∙ sym (ap (λ (z : ℤ). a i *ℤ z) (unit_one n r k e) ∙ times_commutes (a i) (pos 1) ∙ one_times (a i))
+      | inr ne ↦ cond-false (nat_eq r k) (a i) (cond (nat_eq r (k + n)) (neg_ℤ (a i)) (pos 0)) (ne_eqb r k ne)
+          ∙ (elim (cases_eq r (k + n)) [
+            | inl e ↦ cond-true (nat_eq r (k + n)) (neg_ℤ (a i)) (pos 0) (eq-eqb r (k + n) e)
+                ∙ sym (ap (λ (z : ℤ). a i *ℤ z) (unit_minus n r k (omega arith) e) ∙ times_negative (a i) (pos 1) ∙ ap neg_ℤ (times_commutes (a i) (pos 1) ∙ one_times (a i)))
+            | inr ne' ↦ cond-false (nat_eq r (k + n)) (neg_ℤ (a i)) (pos 0) (ne_eqb r (k + n) ne')
+                ∙ sym (ap (λ (z : ℤ). a i *ℤ z) (unit_none n r k ne ne') ∙ times_zero (a i))
+          ])
+    ]
 
 -- the image of a is the sum of a_i times X^(i*g)
 pub turned_is : (n g : ℕ) (a : ℕ → ℤ) (k : ℕ) → k < n → turned n g a k ≡ total n (λ i. a i *ℤ power n (i * g) k)
@@ -43,11 +45,11 @@ turned_total : (n g m : ℕ) (a : ℕ → ℤ) (f : ℕ → ℕ → ℤ) (k : �
 turned_total n g m a f k h =
     turned_is n g (λ x. total m (λ i. a i *ℤ f i x)) k h
     ∙ total_same n (λ j. total m (λ i. a i *ℤ f i j) *ℤ power n (j * g) k) (λ j. total m (λ i. a i *ℤ (f i j *ℤ power n (j * g) k)))
-      (λ j l. times_commutes (total m (λ i. a i *ℤ f i j)) (power n (j * g) k) ∙ sym (total_times m (power n (j * g) k) (λ i. a i *ℤ f i j))
-        ∙ total_same m (λ i. power n (j * g) k *ℤ (a i *ℤ f i j)) (λ i. a i *ℤ (f i j *ℤ power n (j * g) k)) (λ i l'. times_commutes (power n (j * g) k) (a i *ℤ f i j) ∙ times_times (a i) (f i j) (power n (j * g) k)))
+    (λ j l. times_commutes (total m (λ i. a i *ℤ f i j)) (power n (j * g) k) ∙ sym (total_times m (power n (j * g) k) (λ i. a i *ℤ f i j))
+    ∙ total_same m (λ i. power n (j * g) k *ℤ (a i *ℤ f i j)) (λ i. a i *ℤ (f i j *ℤ power n (j * g) k)) (λ i l'. times_commutes (power n (j * g) k) (a i *ℤ f i j) ∙ times_times (a i) (f i j) (power n (j * g) k)))
     ∙ total_swap n m (λ j i. a i *ℤ (f i j *ℤ power n (j * g) k))
     ∙ total_same m (λ i. total n (λ j. a i *ℤ (f i j *ℤ power n (j * g) k))) (λ i. a i *ℤ turned n g (f i) k)
-      (λ i l. total_times n (a i) (λ j. f i j *ℤ power n (j * g) k) ∙ ap (λ (z : ℤ). a i *ℤ z) (sym (turned_is n g (f i) k h)))
+    (λ i l. total_times n (a i) (λ j. f i j *ℤ power n (j * g) k) ∙ ap (λ (z : ℤ). a i *ℤ z) (sym (turned_is n g (f i) k h)))
 
 -- the image of a sum
 pub turned_sum : (n g : ℕ) (a b : ℕ → ℤ) (k : ℕ) → k < n → turned n g (plus a b) k ≡ turned n g a k +ℤ turned n g b k
@@ -78,19 +80,19 @@ turned_one zero g b k h odd = absurd (omega arith)
 turned_one (suc m) g b k h odd =
     let n = suc m in
     let head : shifted n 1 b 0 *ℤ power n (0 * g) k ≡ b m *ℤ power n (n * g) k =
-        ap (λ (z : ℤ). z *ℤ power n (0 * g) k) (shifted_high n 1 b 0 (omega arith) ∙ ap (λ (x : ℕ). neg_ℤ (b x)) (omega arith))
-        ∙ negative_times (b m) (power n (0 * g) k) ∙ sym (times_negative (b m) (power n (0 * g) k))
-        ∙ ap (λ (x : ℕ). b m *ℤ neg_ℤ (power n x k)) (omega arith)
-        ∙ ap (λ (z : ℤ). b m *ℤ z) (sym (power_half n g k h odd)) in
+    ap (λ (z : ℤ). z *ℤ power n (0 * g) k) (shifted_high n 1 b 0 (omega arith) ∙ ap (λ (x : ℕ). neg_ℤ (b x)) (omega arith))
+    ∙ negative_times (b m) (power n (0 * g) k) ∙ sym (times_negative (b m) (power n (0 * g) k))
+    ∙ ap (λ (x : ℕ). b m *ℤ neg_ℤ (power n x k)) (omega arith)
+    ∙ ap (λ (z : ℤ). b m *ℤ z) (sym (power_half n g k h odd)) in
     let rest : total m (λ i. shifted n 1 b (suc i) *ℤ power n (suc i * g) k) ≡ total m (λ i. b i *ℤ power n (suc i * g) k) =
-        total_same m (λ i. shifted n 1 b (suc i) *ℤ power n (suc i * g) k) (λ i. b i *ℤ power n (suc i * g) k)
-        (λ i l. ap (λ (z : ℤ). z *ℤ power n (suc i * g) k) (shifted_low n 1 b (suc i) (omega arith) ∙ ap b (omega arith))) in
+    total_same m (λ i. shifted n 1 b (suc i) *ℤ power n (suc i * g) k) (λ i. b i *ℤ power n (suc i * g) k)
+    (λ i l. ap (λ (z : ℤ). z *ℤ power n (suc i * g) k) (shifted_low n 1 b (suc i) (omega arith) ∙ ap b (omega arith))) in
     let image : wrapped n (power n g) (turned n g b) k ≡ total n (λ i. b i *ℤ power n (suc i * g) k) =
-        wrapped_commutes n (power n g) (turned n g b) k h
-        ∙ wrapped_same n (turned n g b) (power n g) (λ x. total n (λ i. b i *ℤ power n (i * g) x)) (power n g) k h (λ j l. turned_is n g b j l) (λ j l. refl)
-        ∙ wrapped_total n n b (λ i. power n (i * g)) (power n g) k
-        ∙ total_same n (λ i. b i *ℤ wrapped n (power n (i * g)) (power n g) k) (λ i. b i *ℤ power n (suc i * g) k)
-          (λ i l. ap (λ (z : ℤ). b i *ℤ z) (power_sum n (i * g) g k h ∙ ap (λ (x : ℕ). power n x k) (omega arith))) in
+    wrapped_commutes n (power n g) (turned n g b) k h
+    ∙ wrapped_same n (turned n g b) (power n g) (λ x. total n (λ i. b i *ℤ power n (i * g) x)) (power n g) k h (λ j l. turned_is n g b j l) (λ j l. refl)
+    ∙ wrapped_total n n b (λ i. power n (i * g)) (power n g) k
+    ∙ total_same n (λ i. b i *ℤ wrapped n (power n (i * g)) (power n g) k) (λ i. b i *ℤ power n (suc i * g) k)
+    (λ i l. ap (λ (z : ℤ). b i *ℤ z) (power_sum n (i * g) g k h ∙ ap (λ (x : ℕ). power n x k) (omega arith))) in
     turned_is n g (shifted n 1 b) k h
     ∙ total_first m (λ i. shifted n 1 b i *ℤ power n (i * g) k)
     ∙ ap (λ (z : ℤ). z +ℤ total m (λ i. shifted n 1 b (suc i) *ℤ power n (suc i * g) k)) head
@@ -109,7 +111,7 @@ turned_shifted n g (suc i) b k l h odd =
     ∙ wrapped_same n (power n g) (turned n g (shifted n i b)) (power n g) (wrapped n (power n (i * g)) (turned n g b)) k h (λ j p. refl) (λ j p. turned_shifted n g i b j (omega arith) p odd)
     ∙ sym (wrapped_associates n (power n g) (power n (i * g)) (turned n g b) k h)
     ∙ wrapped_same n (wrapped n (power n g) (power n (i * g))) (turned n g b) (power n (suc i * g)) (turned n g b) k h
-      (λ j p. power_sum n g (i * g) j p ∙ ap (λ (x : ℕ). power n x j) (omega arith)) (λ j p. refl)
+    (λ j p. power_sum n g (i * g) j p ∙ ap (λ (x : ℕ). power n x j) (omega arith)) (λ j p. refl)
 
 -- the image of a product is the product of the images
 pub turned_product : (n g : ℕ) (a b : ℕ → ℤ) (k : ℕ) → k < n → g % 2 ≡ 1 → turned n g (wrapped n a b) k ≡ wrapped n (turned n g a) (turned n g b) k
@@ -117,7 +119,7 @@ turned_product n g a b k h odd =
     turned_same n g (wrapped n a b) (λ x. total n (λ i. a i *ℤ shifted n i b x)) k h (λ j l. wrapped_is n a b j)
     ∙ turned_total n g n a (λ i. shifted n i b) k h
     ∙ total_same n (λ i. a i *ℤ turned n g (shifted n i b) k) (λ i. a i *ℤ wrapped n (power n (i * g)) (turned n g b) k)
-      (λ i l. ap (λ (z : ℤ). a i *ℤ z) (turned_shifted n g i b k (omega arith) h odd))
+    (λ i l. ap (λ (z : ℤ). a i *ℤ z) (turned_shifted n g i b k (omega arith) h odd))
     ∙ sym (wrapped_total n n a (λ i. power n (i * g)) (turned n g b) k)
     ∙ wrapped_same n (λ x. total n (λ i. a i *ℤ power n (i * g) x)) (turned n g b) (turned n g a) (turned n g b) k h (λ j l. sym (turned_is n g a j l)) (λ j l. refl)
 
@@ -127,8 +129,8 @@ turned_product n g a b k h odd =
 pub agree_turned : {q n : ℕ} {a b : ℕ → ℤ} (g : ℕ) → Agree q n a b → Agree q n (turned n g a) (turned n g b)
 agree_turned {q} {n} {a} {b} g c = record {
   each = λ k h.
-    congruent_chain (congruent_equal q (turned n g a k) (total n (λ i. a i *ℤ power n (i * g) k)) (turned_is n g a k h))
-    (congruent_chain
+      congruent_chain (congruent_equal q (turned n g a k) (total n (λ i. a i *ℤ power n (i * g) k)) (turned_is n g a k h))
+      (congruent_chain
       (total_congruent q n (λ i. a i *ℤ power n (i * g) k) (λ i. b i *ℤ power n (i * g) k) (λ i l. congruent_product (c.each i l) (congruent_self q (power n (i * g) k))))
       (congruent_equal q (total n (λ i. b i *ℤ power n (i * g) k)) (turned n g b k) (sym (turned_is n g b k h))));
 }
