@@ -1,53 +1,59 @@
 -- Decryption gives the plaintext that is carried, where the noise is at most the limit.
-use Rattle.std.proofs.Common.{◌≡◌, ℕ, zero, suc, ◌+◌, ◌-◌, ◌*◌, ◌/◌, ◌%◌, ◌≤◌, ◌<◌, List, map, length, get_or, refl, sym, ap, ◌∙◌, arith}
-use Rattle.std.specs.Prelude.{ℤ, pos, negsuc, ◌+ℤ◌, ◌-ℤ◌, ◌*ℤ◌, neg_ℤ, unsigned_abs}
-use Rattle.std.proofs.lemmas.Nat.{mul-le, div-mul-add, mod-mul-add}
-use Rattle.bfv_spec.specs.Scheme.{delta, remainder, limit, rounded}
-use Rattle.ring_laws.proofs.Integers.{sums, times_negative}
-use borrow.Author.Differences.{ints}
+use Rattle.std.proofs.Common.{◌≡◌, ℕ, zero, suc, ◌+◌, ◌-◌, ◌*◌, ◌/◌, ◌%◌, ◌^◌, ◌≤◌, ◌<◌, List, map, length, get_or, refl, sym, ap, ◌∙◌, arith}
+use Rattle.std.specs.Prelude.{ℤ, pos, ◌+ℤ◌, ◌-ℤ◌, ◌*ℤ◌, neg_ℤ, unsigned_abs}
+use Rattle.std.proofs.lemmas.Nat.{mul-le}
+use Rattle.std.proofs.lemmas.List.{get_or-map, length-map, ext_get_or}
+use Rattle.ring_spec.specs.Ring.{minus, times, coefficient, size, IsPoly, ring_sum, ring_difference, ring_multiple, ring_product}
+use Rattle.ring_spec.specs.Pairs.{Cipher}
+use Rattle.bfv_spec.specs.Scheme.{delta, remainder, limit, rounded, decryption, phase, Carries}
+use Rattle.ring_laws.specs.Congruence.{IsCongruent, Agree, centred}
+use Rattle.ring_laws.proofs.Integers.{sums}
+use Rattle.ring_laws.proofs.Congruences.{agree_self, agree_chain, agree_back}
+use Rattle.ring_laws.proofs.Residues.{entry_below, sum_poly, difference_poly}
+use Rattle.ring_laws.proofs.Rings.{difference_agrees, multiple_agrees}
+use Rattle.ring_laws.proofs.Sizes.{centred_agrees, size_at}
+use Rattle.bfv_laws.proofs.Rounding.{rounded_is}
 
--- where 2tx + q is 2q * (m + t*k) and less than 2q more, x is rounded to m
-quotient_is : (q t x m k s : ℕ) → 0 < t → m < t → s < 2 * q → 2 * t * x + q ≡ (k * t + m) * (2 * q) + s → rounded q t x ≡ m
-quotient_is q t x m k s h l p e =
-    ap (λ (y : ℕ). y / (2 * q) % t) e ∙ ap (λ (y : ℕ). y % t) (div-mul-add (k * t + m) (2 * q) s p) ∙ mod-mul-add k t m l
+-- a phase that is D*m but for v is decrypted to m, where 2tv + 2r(t-1) is below q
+pub phase_decrypts : (q n t v : ℕ) (f m : List ℕ) → 0 < q → 0 < t → IsPoly q n f → IsPoly t n m → size q (ring_difference q n f (ring_multiple q n (delta q t) m)) ≤ v →
+    2 * t * v + 2 * remainder q t * (t - 1) < q → decryption q t f ≡ m
+unfolding decryption
+phase_decrypts q n t v f m h ht pf pm l c =
+    let D = delta q t in
+    let F = coefficient f in let M = coefficient m in
+    let e = ring_difference q n f (ring_multiple q n D m) in
+    let pe = difference_poly q n f (ring_multiple q n D m) h in
+    let at_e : Agree q n (minus F (times (pos D) M)) (centred q e) =
+        agree_chain (agree_back (difference_agrees f (ring_multiple q n D m) h (agree_self q n F) (multiple_agrees D m h (agree_self q n M)))) (centred_agrees q n e) in
+    ext_get_or 0 (map (rounded q t) f) m (omega (arith, length-map f (rounded q t), pf.entries, pm.entries))
+    (λ i p.
+        let p' : i < n = omega (arith, length-map f (rounded q t), pf.entries) in
+        get_or-map (rounded q t) f i 0 0 (omega (arith, pf.entries))
+        ∙ rounded_is q t (get_or f i 0) (get_or m i 0) v (centred q e i) (at_e.each i p').k ht (entry_below t n m i pm p')
+          (omega (arith, l, size_at q e i (omega (arith, pe.entries)))) c (omega (arith, sums, (at_e.each i p').is)))
 
--- a number D*m + e modulo q is rounded to m, where 2t|e| + 2r(t-1) is below q
-pub rounded_is : (q t x m v : ℕ) (e k : ℤ) → 0 < t → m < t → unsigned_abs e ≤ v → 2 * t * v + 2 * remainder q t * (t - 1) < q →
-    pos x ≡ pos (delta q t * m) +ℤ e +ℤ pos q *ℤ k → rounded q t x ≡ m
-rounded_is q t x m v (pos a) (pos k) h l b c e =
-    let r = q % t in let D = q / t in
-    let xe : x ≡ D * m + a + q * k = omega (arith, sums, e) in
-    let qe : q ≡ t * D + r = omega (arith, h) in
-    let ta : t * a ≤ t * v = mul-le t a t v (omega arith) b in
-    let rm : r * m ≤ r * (t - 1) = mul-le r m r (t - 1) (omega arith) (omega arith) in
-    let e₁ : t * x ≡ t * D * m + t * a + t * q * k = ap (λ (y : ℕ). t * y) xe ∙ omega arith in
-    let e₂ : q * m ≡ t * D * m + r * m = ap (λ (y : ℕ). y * m) qe ∙ omega arith in
-    quotient_is q t x m k (q + 2 * (t * a) - 2 * (r * m)) h l (omega arith) (omega arith)
-rounded_is q t x m v (negsuc a) (pos k) h l b c e =
-    let r = q % t in let D = q / t in
-    let xe : x + suc a ≡ D * m + q * k = omega (arith, sums, e) in
-    let qe : q ≡ t * D + r = omega (arith, h) in
-    let ta : t * suc a ≤ t * v = mul-le t (suc a) t v (omega arith) b in
-    let rm : r * m ≤ r * (t - 1) = mul-le r m r (t - 1) (omega arith) (omega arith) in
-    let e₁ : t * x + t * suc a ≡ t * D * m + t * q * k = (omega arith) ∙ ap (λ (y : ℕ). t * y) xe ∙ omega arith in
-    let e₂ : q * m ≡ t * D * m + r * m = ap (λ (y : ℕ). y * m) qe ∙ omega arith in
-    quotient_is q t x m k (q - 2 * (t * suc a) - 2 * (r * m)) h l (omega arith) (omega arith)
-rounded_is q t x m v (pos a) (negsuc k) h l b c e =
-    let r = q % t in let D = q / t in
-    let xe : x + q * suc k ≡ D * m + a = omega (arith, sums, e, times_negative (pos q) (pos (suc k))) in
-    let qe : q ≡ t * D + r = omega (arith, h) in
-    let ta : t * a ≤ t * v = mul-le t a t v (omega arith) b in
-    let qm : q * m ≤ q * (t - 1) = mul-le q m q (t - 1) (omega arith) (omega arith) in
-    let e₁ : t * x + t * q * suc k ≡ t * D * m + t * a = (omega arith) ∙ ap (λ (y : ℕ). t * y) xe ∙ omega arith in
-    let e₂ : q * m ≡ t * D * m + r * m = ap (λ (y : ℕ). y * m) qe ∙ omega arith in
-    let e₃ : q * t ≡ q * (t - 1) + q = ap (λ (y : ℕ). q * y) (let y : t ≡ t - 1 + 1 = omega arith in y) ∙ omega arith in
-    absurd (omega arith)
-rounded_is q t x m v (negsuc a) (negsuc k) h l b c e =
-    let r = q % t in let D = q / t in
-    let xe : x + suc a + q * suc k ≡ D * m = omega (arith, sums, e, times_negative (pos q) (pos (suc k))) in
-    let qe : q ≡ t * D + r = omega (arith, h) in
-    let qm : q * m ≤ q * (t - 1) = mul-le q m q (t - 1) (omega arith) (omega arith) in
-    let e₁ : t * x + t * suc a + t * q * suc k ≡ t * D * m = (omega arith) ∙ ap (λ (y : ℕ). t * y) xe ∙ omega arith in
-    let e₂ : q * m ≡ t * D * m + r * m = ap (λ (y : ℕ). y * m) qe ∙ omega arith in
-    let e₃ : q * t ≡ q * (t - 1) + q = ap (λ (y : ℕ). q * y) (let y : t ≡ t - 1 + 1 = omega arith in y) ∙ omega arith in
-    absurd (omega arith)
+-- what a ciphertext carries within v is what decryption gives, where 2tv + 2r(t-1) is below q
+pub carries_decrypts : (q n t v : ℕ) (c : Cipher) (m s : List ℕ) → 0 < q → 0 < t → IsPoly t n m → Carries q n t s v c m →
+    2 * t * v + 2 * remainder q t * (t - 1) < q → decryption q t (phase q n s c) ≡ m
+unfolding phase
+carries_decrypts q n t v c m s h ht pm cm l =
+    phase_decrypts q n t v (phase q n s c) m h ht (sum_poly q n c.c0 (ring_product q n c.c1 s) h) pm cm.noise l
+
+-- noise at most the limit is small enough, where noise 0 is
+pub limit_is : (q t v : ℕ) → 0 < t → 2 * remainder q t * (t - 1) < q → v ≤ limit q t → 2 * t * v + 2 * remainder q t * (t - 1) < q
+limit_is q t v h l p =
+    let z = q - 1 - 2 * remainder q t * (t - 1) in
+    let a : 2 * t * v ≤ 2 * t * (z / (2 * t)) = mul-le (2 * t) v (2 * t) (z / (2 * t)) (omega arith) p in
+    let b : 2 * t * (z / (2 * t)) ≤ z = omega arith in
+    omega arith
+
+-- what a ciphertext carries within the limit is what decryption gives
+pub limit_decrypts : (q n t v : ℕ) (c : Cipher) (m s : List ℕ) → 0 < t → 2 * remainder q t * (t - 1) < q → IsPoly t n m → Carries q n t s v c m →
+    v ≤ limit q t → decryption q t (phase q n s c) ≡ m
+limit_decrypts q n t v c m s ht l pm cm p = carries_decrypts q n t v c m s (omega arith) ht pm cm (limit_is q t v ht l p)
+
+-- moduli q of at least 2^40 and t of at most 65537 are far enough apart
+pub parameters_fit : (q t : ℕ) → 0 < t → t ≤ 65537 → 2 ^ 40 ≤ q → 2 * remainder q t * (t - 1) < q
+parameters_fit q t h l p =
+    let a : q % t * (t - 1) ≤ 65536 * 65536 = mul-le (q % t) (t - 1) 65536 65536 (omega arith) (omega arith) in
+    omega arith
