@@ -4,3 +4,4 @@ pub mod Sums
 pub mod Rounding
 pub mod Decryptions
 pub mod Parties
+mod Instances

@@ -5,34 +5,18 @@ use Rattle.std.proofs.lemmas.List.Elements.{All-head, All-tail}
 use Rattle.ring_spec.specs.Ring.{wrapped, residues, plus, minus, negated, times, coefficient, size, IsPoly, IsWithin, ring_sum, ring_difference, ring_negative, ring_multiple, ring_product}
 use Rattle.ring_spec.specs.Pairs.{Cipher, Key}
 use Rattle.bfv_spec.specs.Scheme.{delta, remainder, phase, decryption, Carries, pk_share, IsPublicKey}
-use Rattle.bfv_laws.specs.Parties.{ring_total, Party, parts, noises, key_shares, decryption_shares}
+use Rattle.ring_laws.specs.Aggregate.{ring_total}
+use Rattle.bfv_laws.specs.Parties.{Party, parts, noises, key_shares, decryption_shares}
 use Rattle.ring_laws.specs.Congruence.{Agree}
 use Rattle.ring_laws.proofs.Integers.{sums}
 use Rattle.ring_laws.proofs.Products.{wrapped_sum_right, wrapped_zero_right}
 use Rattle.ring_laws.proofs.Congruences.{agree_self, agree_chain}
 use Rattle.ring_laws.proofs.Residues.{residues_poly, coefficients_agree, sum_poly, difference_poly, product_poly}
 use Rattle.ring_laws.proofs.Rings.{by_coefficients, sum_agrees, difference_agrees, negative_agrees, multiple_agrees, product_agrees}
-use Rattle.ring_laws.proofs.Sizes.{size_residues, size_sum}
+use Rattle.ring_laws.proofs.Sizes.{size_sum}
+use Rattle.ring_laws.proofs.Aggregates.{total_poly, size_total}
 use Rattle.bfv_laws.proofs.Noise.{share_is_key}
 use Rattle.bfv_laws.proofs.Decryptions.{phase_decrypts}
-
--- a sum is a polynomial of the ring
-pub total_poly : (q n : ℕ) (fs : List (List ℕ)) → 0 < q → IsPoly q n (ring_total q n fs)
-unfolding ring_total
-total_poly q n [] h = residues_poly q n (λ i. pos 0) h
-total_poly q n (f ∷ fs) h = sum_poly q n f (ring_total q n fs) h
-
--- polynomials of size at most v sum to one of size at most v for each
-pub size_total : (q n v : ℕ) (fs : List (List ℕ)) → 0 < q → All (IsPoly q n) fs → All (λ f. size q f ≤ v) fs → size q (ring_total q n fs) ≤ length fs * v
-unfolding ring_total
-size_total q n v [] h p l =
-    let e : size q (residues q n (λ i. pos 0)) ≤ 0 = size_residues q n 0 (λ i. pos 0) h (λ i r. omega arith) in omega arith
-size_total q n v (f ∷ fs) h p l =
-    let a : size q (ring_sum q n f (ring_total q n fs)) ≤ size q f + size q (ring_total q n fs) =
-        size_sum q n f (ring_total q n fs) h (All-head (IsPoly q n) f fs p) (total_poly q n fs h) in
-    let b : size q (ring_total q n fs) ≤ length fs * v = size_total q n v fs h (All-tail (IsPoly q n) f fs p) (All-tail (λ f. size q f ≤ v) f fs l) in
-    let c : size q f ≤ v = All-head (λ f. size q f ≤ v) f fs l in
-    omega arith
 
 -- two shares of the public key add up to the share of both parts
 pub shares_add : (q n : ℕ) (a s e z d : List ℕ) → 0 < q → ring_sum q n (pk_share q n a s e) (pk_share q n a z d) ≡ pk_share q n a (ring_sum q n s z) (ring_sum q n e d)

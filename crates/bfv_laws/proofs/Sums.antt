@@ -9,15 +9,11 @@ use Rattle.ring_laws.specs.Congruence.{IsCongruent, Agree, centred}
 use Rattle.ring_laws.proofs.Integers.{sums}
 use Rattle.ring_laws.proofs.Products.{wrapped_sum_left}
 use Rattle.ring_laws.proofs.Congruences.{agree_self, agree_chain, agree_sum, agree_back}
-use Rattle.ring_laws.proofs.Residues.{residues_at, entry_below, difference_poly}
+use Rattle.ring_laws.proofs.Aggregates.{sum_at}
+use Rattle.ring_laws.proofs.Residues.{entry_below, difference_poly}
 use Rattle.ring_laws.proofs.Rings.{sum_agrees, difference_agrees, multiple_agrees, product_agrees}
 use Rattle.ring_laws.proofs.Sizes.{size_within, within_sum, within_more, centred_agrees, centred_within}
 use borrow.Author.Differences.{ints}
-
--- an entry of a sum of plaintexts
-pub sum_at : (t n : ℕ) (m l : List ℕ) (i : ℕ) → i < n → get_or (ring_sum t n m l) i 0 ≡ (get_or m i 0 + get_or l i 0) % t
-unfolding ring_sum residue
-sum_at t n m l i h = residues_at t n (plus (coefficient m) (coefficient l)) i h
 
 -- D times a sum, against D times the sum modulo t
 carry : (q t x y : ℕ) → 0 < t → delta q t * x + delta q t * y + remainder q t * ((x + y) / t) ≡ delta q t * ((x + y) % t) + q * ((x + y) / t)

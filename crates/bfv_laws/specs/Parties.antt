@@ -1,12 +1,7 @@
 -- What several parties add up: their parts of a secret, and their shares.
-use Rattle.std.specs.Prelude.{ℕ, pos, List, [], ◌∷◌, map}
-use Rattle.ring_spec.specs.Ring.{residues, ring_sum, ring_product}
+use Rattle.std.specs.Prelude.{ℕ, List, [], ◌∷◌}
+use Rattle.ring_spec.specs.Ring.{ring_sum, ring_product}
 use Rattle.bfv_spec.specs.Scheme.{pk_share}
-
--- the sum of a list of polynomials of R_q
-unfoldable pub ring_total : ℕ → ℕ → List (List ℕ) → List ℕ
-ring_total q n [] = residues q n (λ i. pos 0)
-ring_total q n (f ∷ fs) = ring_sum q n f (ring_total q n fs)
 
 -- a party's part of the secret, and the noise that it adds to its share
 pub record Party : Type 0 where

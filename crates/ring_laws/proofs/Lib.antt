@@ -9,3 +9,4 @@ pub mod Sizes
 pub mod Powers
 pub mod Turns
 pub mod TurnSizes
+pub mod Aggregates
