@@ -1,0 +1,43 @@
+//! A source over a reader of std.
+ghost use Rattle.std.specs.Prelude.{◌≡◌, None};
+
+use std::io::Read;
+
+use crate::source::{Failed, Source};
+
+/// Gives what a reader of std gives, as a file or a terminal, and counts its failures.
+/// It tells no bytes, so what comes in is trusted to be what the system read.
+#[derive(Drop)]
+pub struct StdSource<R> {
+    reader: R,
+    faults: u64,
+}
+
+impl<R> StdSource<R> {
+    ghost use Rattle.edge_io.specs.Outside.{source_faults};
+
+    /// Gives what `reader` gives.
+    pub fn new(reader: R) -> StdSource<R>
+        ensures { source_faults result ≡ 0 }
+    {
+        StdSource { reader, faults: 0 }
+    }
+}
+
+impl<R: Read> Source for StdSource<R> {
+    ghost use Rattle.edge_io.specs.Outside.{source_faults};
+
+    ghost left = { λ _. None };
+
+    ghost faults = { source_faults };
+
+    fn read(&mut self, buf: &mut [u8]) -> Result<usize, Failed> {
+        match self.reader.read(buf) {
+            Ok(count) => Ok(count),
+            Err(_) => {
+                self.faults = self.faults.saturating_add(1);
+                Err(Failed)
+            }
+        }
+    }
+}
