@@ -1,8 +1,8 @@
 //! Reads a source to its end.
-ghost use Rattle.std.specs.Prelude.{◌≡◌, ℕ, ◌+◌, ◌<◌, ◌≤◌, ◌++◌, min, length, take, vec_len, vec_capacity, IfOk, IfErr, OnErr};
+ghost use Rattle.std.specs.Prelude.{◌≡◌, ◌↔◌, ℕ, ◌+◌, ◌<◌, ◌≤◌, ◌++◌, min, length, take, vec_len, vec_capacity, IfOk, IfErr, IfSome, OnErr};
 ghost use Rattle.std.specs.Io.KnownBytes.{Consumes, IsAtEnd, Keeps};
 ghost use Rattle.edge_io.specs.Faults.{HasFault};
-ghost use Rattle.edge_io.specs.Taking.{TakesAll};
+ghost use Rattle.edge_io.specs.Taking.{TakesAll, TakesMoreThan};
 ghost use Rattle.edge_io.specs.Reading.{StopsReading};
 
 use std::alloc::{AllocError, Global};
@@ -81,6 +81,8 @@ pub fn read_all<S: Source>(alloc: Global, source: &mut S, limit: u64) -> Result<
     ensures all { IfOk result (λ bytes. TakesAll (S.left source.old) (S.left source.new) bytes.items) }
     ensures within { IfOk result (λ bytes. vec_len bytes ≤ limit) }
     ensures stops { IfErr result (StopsReading (S.left source.old) (S.left source.new) limit) }
+    ensures too_long { IfSome (S.left source.old)
+        (λ all. (result ≡ Err ReadStop.TooLong) ↔ TakesMoreThan all (S.left source.new) limit) }
     ensures fault { result ≡ Err ReadStop.ReadFault → HasFault (S.faults source.old) (S.faults source.new) }
     ensures never_falls { S.faults source.old ≤ S.faults source.new }
 {

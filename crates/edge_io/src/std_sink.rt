@@ -1,5 +1,7 @@
 //! A sink over a writer of std.
-ghost use Rattle.std.specs.Prelude.{◌≡◌, None};
+ghost use Rattle.std.specs.Prelude.{◌≡◌, ◌<◌, ◌≤◌, None, length, IfOk, OnErr, is_err, if◌then◌else◌};
+ghost use Rattle.std.specs.Io.{WritesAtMost};
+ghost use Rattle.edge_io.specs.Faults.{raised, HasFault};
 
 use std::io::Write;
 
@@ -33,7 +35,14 @@ impl<W: Write> Sink for StdSink<W> {
 
     ghost faults = { sink_faults };
 
-    fn write(&mut self, piece: &[u8]) -> Result<usize, Failed> {
+    // Each failure of the writer is counted, once, and nothing else is.
+    fn write(&mut self, piece: &[u8]) -> Result<usize, Failed>
+        ensures within { WritesAtMost result piece.now }
+        ensures moves { IfOk result (λ count. 0 < length piece.now → 0 < count) }
+        ensures failed { OnErr result (HasFault (sink_faults self.old) (sink_faults self.new)) }
+        ensures never_falls { sink_faults self.old ≤ sink_faults self.new }
+        ensures counted { sink_faults self.new ≡ (if is_err result then raised (sink_faults self.old) else sink_faults self.old) }
+    {
         match self.writer.write(piece) {
             Ok(count) if count > 0 || piece.is_empty() => Ok(count),
             _ => {

@@ -1,5 +1,7 @@
 //! A source over a reader of std.
-ghost use Rattle.std.specs.Prelude.{◌≡◌, None};
+ghost use Rattle.std.specs.Prelude.{◌≡◌, ◌≤◌, None, OnErr, is_err, if◌then◌else◌};
+ghost use Rattle.std.specs.Io.{ReadsAtMost};
+ghost use Rattle.edge_io.specs.Faults.{raised, HasFault};
 
 use std::io::Read;
 
@@ -31,7 +33,13 @@ impl<R: Read> Source for StdSource<R> {
 
     ghost faults = { source_faults };
 
-    fn read(&mut self, buf: &mut [u8]) -> Result<usize, Failed> {
+    // Each failure of the reader is counted, once, and nothing else is.
+    fn read(&mut self, buf: &mut [u8]) -> Result<usize, Failed>
+        ensures within { ReadsAtMost result buf.new }
+        ensures failed { OnErr result (HasFault (source_faults self.old) (source_faults self.new)) }
+        ensures never_falls { source_faults self.old ≤ source_faults self.new }
+        ensures counted { source_faults self.new ≡ (if is_err result then raised (source_faults self.old) else source_faults self.old) }
+    {
         match self.reader.read(buf) {
             Ok(count) => Ok(count),
             Err(_) => {
