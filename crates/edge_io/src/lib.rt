@@ -28,5 +28,5 @@ pub use std_sink::StdSink;
 pub use std_source::StdSource;
 pub use writing::{WriteFault, write_all};
 
-
-
+#[cfg(test)]
+mod tests;

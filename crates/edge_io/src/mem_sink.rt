@@ -5,11 +5,10 @@ ghost use Rattle.std.specs.Io.KnownBytes.{WriteAppends};
 ghost use Rattle.edge_io.specs.Faults.{raised, HasFault};
 ghost use Rattle.edge_io.specs.Memory.{IsFull};
 
-use std::alloc::{AllocError, Global};
-use std::marker::Model;
-
 use crate::sink::Sink;
 use crate::source::Failed;
+use std::alloc::{AllocError, Global};
+use std::marker::Model;
 
 /// Keeps the bytes that it takes. Contracts see them, the room, which writes fail, and how many
 /// were made and failed.
@@ -29,11 +28,11 @@ impl Model for MemSink {
     ghost Value = { SinkState };
 
     ghost view = { λ s. record {
-        bytes = s.bytes.items;
-        room = s.room;
-        failing = s.failing.items;
-        writes = s.writes;
-        faults = s.faults
+      bytes = s.bytes.items;
+      room = s.room;
+      failing = s.failing.items;
+      writes = s.writes;
+      faults = s.faults;
     } };
 
     ghost invariant = { λ s. (vec_len s.bytes ≤ s.room) × (s.room ≤ vec_capacity s.bytes) };

@@ -4,9 +4,8 @@ ghost use Rattle.std.specs.Io.{ReadsAtMost};
 ghost use Rattle.std.specs.Io.KnownBytes.{ReadConsumes};
 ghost use Rattle.edge_io.specs.Faults.{raised, HasFault};
 
-use std::marker::Model;
-
 use crate::source::{Failed, Source};
+use std::marker::Model;
 
 /// Gives the bytes of a list. Contracts see what is left of it, which reads fail, and how many were
 /// made and failed.
@@ -26,10 +25,10 @@ impl Model for MemSource {
     ghost Value = { SourceState };
 
     ghost view = { λ s. record {
-        bytes = drop s.next s.bytes.items;
-        failing = s.failing.items;
-        reads = s.reads;
-        faults = s.faults
+      bytes = drop s.next s.bytes.items;
+      failing = s.failing.items;
+      reads = s.reads;
+      faults = s.faults;
     } };
 
     ghost invariant = { λ s. s.next ≤ vec_len s.bytes };

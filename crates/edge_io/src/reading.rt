@@ -5,10 +5,9 @@ ghost use Rattle.edge_io.specs.Faults.{HasFault};
 ghost use Rattle.edge_io.specs.Taking.{TakesAll, TakesMoreThan};
 ghost use Rattle.edge_io.specs.Reading.{StopsReading};
 
+use crate::source::{Failed, Source};
 use std::alloc::{AllocError, Global};
 use thiserror::Error;
-
-use crate::source::{Failed, Source};
 
 /// The most bytes of one read.
 const PIECE: usize = 65536;

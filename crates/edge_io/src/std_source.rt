@@ -1,11 +1,11 @@
 //! A source over a reader of std.
 ghost use Rattle.std.specs.Prelude.{◌≡◌, ◌≤◌, None, OnErr, is_err, if◌then◌else◌};
 ghost use Rattle.std.specs.Io.{ReadsAtMost};
+ghost use Rattle.std.specs.Io.KnownBytes.{ReadConsumes};
 ghost use Rattle.edge_io.specs.Faults.{raised, HasFault};
 
-use std::io::Read;
-
 use crate::source::{Failed, Source};
+use std::io::Read;
 
 /// Gives what a reader of std gives, as a file or a terminal, and counts its failures.
 /// It tells no bytes, so what comes in is trusted to be what the system read.
@@ -16,26 +16,29 @@ pub struct StdSource<R> {
 }
 
 impl<R> StdSource<R> {
-    ghost use Rattle.edge_io.specs.Outside.{source_faults};
+    ghost use Rattle.edge_io.specs.Outside.{source_faults, source_reader};
 
     /// Gives what `reader` gives.
     pub fn new(reader: R) -> StdSource<R>
-        ensures { source_faults result ≡ 0 }
+        ensures reader { source_reader result ≡ reader }
+        ensures no_fault { source_faults result ≡ 0 }
     {
         StdSource { reader, faults: 0 }
     }
 }
 
 impl<R: Read> Source for StdSource<R> {
-    ghost use Rattle.edge_io.specs.Outside.{source_faults};
+    ghost use Rattle.edge_io.specs.Outside.{source_faults, source_reader};
 
     ghost left = { λ _. None };
 
     ghost faults = { source_faults };
 
-    // Each failure of the reader is counted, once, and nothing else is.
+    // It passes on what the reader gives. Each failure of the reader is counted, once, and nothing
+    // else is.
     fn read(&mut self, buf: &mut [u8]) -> Result<usize, Failed>
         ensures within { ReadsAtMost result buf.new }
+        ensures passed_on { ReadConsumes (R.remaining (source_reader self.old)) (R.remaining (source_reader self.new)) result buf.new }
         ensures failed { OnErr result (HasFault (source_faults self.old) (source_faults self.new)) }
         ensures never_falls { source_faults self.old ≤ source_faults self.new }
         ensures counted { source_faults self.new ≡ (if is_err result then raised (source_faults self.old) else source_faults self.old) }

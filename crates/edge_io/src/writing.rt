@@ -3,9 +3,8 @@ ghost use Rattle.std.specs.Prelude.{◌≡◌, ℕ, ◌+◌, ◌<◌, ◌≤◌,
 ghost use Rattle.std.specs.Io.KnownBytes.{Appends};
 ghost use Rattle.edge_io.specs.Faults.{HasFault};
 
-use thiserror::Error;
-
 use crate::sink::Sink;
+use thiserror::Error;
 
 /// A write failed. The sink took exactly the first `written` bytes, and not all.
 #[derive(Clone, Copy, Debug, PartialEq, Eq, Error)]

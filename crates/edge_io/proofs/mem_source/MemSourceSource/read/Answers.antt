@@ -14,7 +14,7 @@ copied-front all buffer copied place count fits is =
     let room : count ≤ length (drop place all) = rw (length-drop place all) (omega arith) in
     let long : count ≤ length (take count (drop place all)) = rw (length-take-le count (drop place all) room) (omega arith) in
     let front : take count (copied ++ buffer) ≡ take count (drop place all) =
-        rw (copy, take-append-le count (take count (drop place all)) buffer long) (take-take count count (drop place all) (omega arith)) in
+    rw (copy, take-append-le count (take count (drop place all)) buffer long) (take-take count count (drop place all) (omega arith)) in
     rw (front, ← drop-drop count place all) (sym (take-append-drop count (drop place all)))
 
 -- behind the end nothing is left
@@ -29,6 +29,8 @@ returns-clause-bytes c =
     let size : length all ≡ vec_len c.self.inside.bytes = ap length (sym c.deref-2.ensures.value) ∙ c.deref-2.ensures.len in
     let place : next ≤ vec_len c.self.inside.bytes = c.self.invariant in
     let copied : c.copy_from_slice.new.self ≡ take (next + count - next) (drop next all) =
-        c.copy_from_slice.ensures.after ∙ ap (λ l. take (next + count - next) (drop next l)) c.deref-2.ensures.value in
-    rw (← c.self.view_is) (copied-front all _ _ _ _ (omega (arith, size, place, c.min-count.ensures, c.len.ensures)) copied,
-        λ none room. none-left all _ (grind (arith, common_steps, size, place, none, room, c.min-count.ensures, c.len.ensures, c.copy_from_slice.ensures.len)))
+    c.copy_from_slice.ensures.after ∙ ap (λ l. take (next + count - next) (drop next l)) c.deref-2.ensures.value in
+    rw (← c.self.view_is) (
+      copied-front all _ _ _ _ (omega (arith, size, place, c.min-count.ensures, c.len.ensures)) copied,
+      λ none room. none-left all _ (grind (arith, common_steps, size, place, none, room, c.min-count.ensures, c.len.ensures, c.copy_from_slice.ensures.len)),
+    )
