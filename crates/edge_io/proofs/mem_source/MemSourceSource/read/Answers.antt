@@ -1,5 +1,5 @@
 -- What was copied is the front of what was left, and the others are left now.
-use Rattle.std.proofs.Common.{vec_len, ◌≡◌, ℕ, ◌+◌, ◌-◌, ◌≤◌, ◌<◌, List, [], ◌++◌, length, take, drop, arith, sym, ap, ◌∙◌, length-drop}
+use Rattle.std.proofs.Common.{vec_len, ◌≡◌, ℕ, ◌+◌, ◌-◌, ◌≤◌, List, [], ◌++◌, length, take, drop, arith, sym, ap, ◌∙◌, length-drop}
 use Rattle.std.proofs.lemmas.List.{take-append-drop, take-append-le, take-take, length-take-le, drop-drop}
 use Rattle.std.proofs.lemmas.Grind.{common_steps}
 use Rattle.edge_io.proofs.mem_source.MemSourceSource.read.Goals as goal
