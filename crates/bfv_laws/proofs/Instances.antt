@@ -1,6 +1,6 @@
 -- Worked instances: what the definitions and the bounds give at small numbers, by computation.
-use Rattle.std.proofs.Common.{◌≡◌, ℕ, ◌+◌, ◌*◌, List, [], ◌∷◌, refl}
-use Rattle.ring_spec.specs.Ring.{total, residue, centre, residues, wrapped, ring_product, ring_sum, ring_difference, ring_negative, ring_multiple, size}
+use Rattle.std.proofs.Common.{◌≡◌, [], ◌∷◌, refl}
+use Rattle.ring_spec.specs.Ring.{total, residue, residues, wrapped, ring_product, ring_sum, ring_difference, ring_negative, ring_multiple}
 use Rattle.ring_spec.specs.Pairs.{Cipher, Key}
 use Rattle.bfv_spec.specs.Scheme.{encryption, phase, decryption, pk_share, delta, limit}
 

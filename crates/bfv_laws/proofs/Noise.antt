@@ -1,21 +1,20 @@
 -- The noise of a public key, of a fresh encryption and of a sum.
-use Rattle.std.proofs.Common.{◌≡◌, ℕ, zero, suc, ◌+◌, ◌-◌, ◌*◌, ◌/◌, ◌%◌, ◌≤◌, ◌<◌, List, length, get_or, refl, sym, ap, ◌∙◌, subst, arith}
-use Rattle.std.specs.Prelude.{ℤ, pos, negsuc, ◌+ℤ◌, ◌-ℤ◌, ◌*ℤ◌, neg_ℤ, unsigned_abs}
+use Rattle.std.proofs.Common.{◌≡◌, ℕ, ◌+◌, ◌*◌, ◌≤◌, ◌<◌, List, subst, arith}
+use Rattle.std.specs.Prelude.{pos}
 use Rattle.std.proofs.lemmas.Nat.{mul-le}
-use Rattle.ring_spec.specs.Ring.{wrapped, residue, plus, minus, negated, times, coefficient, size, IsWithin, IsPoly, ring_sum, ring_difference, ring_negative, ring_multiple, ring_product}
-use Rattle.ring_spec.specs.Pairs.{Cipher, Key}
-use Rattle.bfv_spec.specs.Scheme.{delta, remainder, encryption, cipher_sum, phase, Carries, pk_share, IsPublicKey}
+use Rattle.ring_spec.specs.Ring.{wrapped, plus, minus, negated, times, coefficient, size, IsPoly, ring_sum, ring_difference, ring_negative, ring_multiple, ring_product}
+use Rattle.ring_spec.specs.Pairs.{Key}
+use Rattle.bfv_spec.specs.Scheme.{delta, encryption, phase, Carries, pk_share, IsPublicKey}
 use Rattle.bfv_spec.specs.Drawn.{drawn_encryption, ternary_poly, small_poly}
-use Rattle.ring_laws.specs.Congruence.{IsCongruent, Agree, centred}
-use Rattle.ring_laws.proofs.Integers.{sums, times_sum}
+use Rattle.ring_laws.specs.Congruence.{Agree}
+use Rattle.ring_laws.proofs.Integers.{sums}
 use Rattle.ring_laws.proofs.Products.{wrapped_sum_left, wrapped_sum_right}
 use Rattle.ring_laws.proofs.Associates.{wrapped_associates}
-use Rattle.ring_laws.proofs.Congruences.{agree_self, agree_chain, agree_sum, agree_back}
-use Rattle.ring_laws.proofs.Residues.{residues_at, entry_below, sum_poly, difference_poly, product_poly}
+use Rattle.ring_laws.proofs.Congruences.{agree_self}
+use Rattle.ring_laws.proofs.Residues.{sum_poly, difference_poly, product_poly}
 use Rattle.ring_laws.proofs.Rings.{sum_agrees, difference_agrees, negative_agrees, multiple_agrees, product_agrees, by_coefficients}
-use Rattle.ring_laws.proofs.Sizes.{size_within, size_sum, size_product, within_sum, centred_agrees, centred_within}
+use Rattle.ring_laws.proofs.Sizes.{size_sum, size_product}
 use Rattle.bfv_laws.proofs.Draws.{small_poly_is, ternary_poly_is, size_small_poly, size_ternary_poly}
-use borrow.Author.Differences.{ints}
 
 -- ---- the public key
 
@@ -28,9 +27,9 @@ share_noise q n a s e h p =
     by_coefficients (plus (plus (negated (wrapped n A S)) E) (wrapped n A S)) E (ring_sum q n share (ring_product q n a s)) e h
     (sum_poly q n share (ring_product q n a s) h) p
     (sum_agrees share (ring_product q n a s) h
-      (sum_agrees (ring_negative q n (ring_product q n a s)) e h
-        (negative_agrees (ring_product q n a s) h (product_agrees a s h (agree_self q n A) (agree_self q n S))) (agree_self q n E))
-      (product_agrees a s h (agree_self q n A) (agree_self q n S)))
+    (sum_agrees (ring_negative q n (ring_product q n a s)) e h
+    (negative_agrees (ring_product q n a s) h (product_agrees a s h (agree_self q n A) (agree_self q n S))) (agree_self q n E))
+    (product_agrees a s h (agree_self q n A) (agree_self q n S)))
     (agree_self q n E) (λ i l. omega (arith, sums))
 
 -- the share of a party with the part s is a public key of s within the size of its noise
@@ -58,11 +57,11 @@ encryption_noise q n t key m u e0 e1 s h =
     let e1s = ring_product q n e1 s in
     let at_dm : Agree q n (coefficient dm) (times (pos D) M) = multiple_agrees D m h (agree_self q n M) in
     let at_c0 : Agree q n (coefficient c0) (plus (plus (wrapped n U P0) E0) (times (pos D) M)) =
-        sum_agrees (ring_sum q n up0 e0) dm h (sum_agrees up0 e0 h (product_agrees u key.p0 h (agree_self q n U) (agree_self q n P0)) (agree_self q n E0)) at_dm in
+    sum_agrees (ring_sum q n up0 e0) dm h (sum_agrees up0 e0 h (product_agrees u key.p0 h (agree_self q n U) (agree_self q n P0)) (agree_self q n E0)) at_dm in
     let at_c1 : Agree q n (coefficient c1) (plus (wrapped n U P1) E1) =
-        sum_agrees up1 e1 h (product_agrees u key.p1 h (agree_self q n U) (agree_self q n P1)) (agree_self q n E1) in
+    sum_agrees up1 e1 h (product_agrees u key.p1 h (agree_self q n U) (agree_self q n P1)) (agree_self q n E1) in
     let at_w : Agree q n (coefficient w) (plus P0 (wrapped n P1 S)) =
-        sum_agrees key.p0 (ring_product q n key.p1 s) h (agree_self q n P0) (product_agrees key.p1 s h (agree_self q n P1) (agree_self q n S)) in
+    sum_agrees key.p0 (ring_product q n key.p1 s) h (agree_self q n P0) (product_agrees key.p1 s h (agree_self q n P1) (agree_self q n S)) in
     by_coefficients
     (minus (plus (plus (plus (wrapped n U P0) E0) (times (pos D) M)) (wrapped n (plus (wrapped n U P1) E1) S)) (times (pos D) M))
     (plus (plus (wrapped n U (plus P0 (wrapped n P1 S))) E0) (wrapped n E1 S))
@@ -70,7 +69,7 @@ encryption_noise q n t key m u e0 e1 s h =
     (difference_poly q n left dm h) (sum_poly q n (ring_sum q n uw e0) e1s h)
     (difference_agrees left dm h (sum_agrees c0 (ring_product q n c1 s) h at_c0 (product_agrees c1 s h at_c1 (agree_self q n S))) at_dm)
     (sum_agrees (ring_sum q n uw e0) e1s h (sum_agrees uw e0 h (product_agrees u w h (agree_self q n U) at_w) (agree_self q n E0))
-      (product_agrees e1 s h (agree_self q n E1) (agree_self q n S)))
+    (product_agrees e1 s h (agree_self q n E1) (agree_self q n S)))
     (λ i l. omega (arith, sums, wrapped_sum_left n (wrapped n U P1) E1 S i, wrapped_associates n U P1 S i l, wrapped_sum_right n U P0 (wrapped n P1 S) i l))
 
 -- a fresh encryption carries its plaintext within n * |u| * |key's noise| + |e0| + n * |e1| * |s|
@@ -87,7 +86,7 @@ encryption_carries q n t v w b k key m u e0 e1 s h pu pe0 pe1 ps owns su se0 se1
     let c' : n * size q e1 * size q s ≤ n * b * k = mul-le (n * size q e1) (size q s) (n * b) k (mul-le n (size q e1) n b (omega arith) se1) ss in
     let d : size q (ring_sum q n ux e0) ≤ size q ux + size q e0 = size_sum q n ux e0 h pux pe0 in
     let f : size q (ring_sum q n (ring_sum q n ux e0) e1s) ≤ size q (ring_sum q n ux e0) + size q e1s =
-        size_sum q n (ring_sum q n ux e0) e1s h (sum_poly q n ux e0 h) (product_poly q n e1 s h) in
+    size_sum q n (ring_sum q n ux e0) e1s h (sum_poly q n ux e0 h) (product_poly q n e1 s h) in
     record { noise = rw (encryption_noise q n t key m u e0 e1 s h) (omega arith) }
 
 -- with u ternary, noise of size b, a key of T shares and a secret of N parts: b * (1 + n * (T + N))

@@ -1,22 +1,21 @@
 -- What several parties' shares add up to: a public key of the sum of their parts, and a phase.
-use Rattle.std.proofs.Common.{◌≡◌, ℕ, zero, suc, ◌+◌, ◌-◌, ◌*◌, ◌≤◌, ◌<◌, List, [], ◌∷◌, length, refl, sym, ap, ◌∙◌, arith}
-use Rattle.std.specs.Prelude.{ℤ, pos, ◌+ℤ◌, ◌-ℤ◌, ◌*ℤ◌, neg_ℤ, All}
-use Rattle.std.proofs.lemmas.List.Elements.{All-head, All-tail}
-use Rattle.ring_spec.specs.Ring.{wrapped, residues, plus, minus, negated, times, coefficient, size, IsPoly, IsWithin, ring_sum, ring_difference, ring_negative, ring_multiple, ring_product}
-use Rattle.ring_spec.specs.Pairs.{Cipher, Key}
-use Rattle.bfv_spec.specs.Scheme.{delta, remainder, phase, decryption, Carries, pk_share, IsPublicKey}
+use Rattle.std.proofs.Common.{◌≡◌, ℕ, ◌+◌, ◌-◌, ◌*◌, ◌≤◌, ◌<◌, List, [], ◌∷◌, length, ap, ◌∙◌, arith}
+use Rattle.std.specs.Prelude.{pos, All}
+use Rattle.ring_spec.specs.Ring.{wrapped, residues, plus, minus, negated, coefficient, size, IsPoly, ring_sum, ring_difference, ring_negative, ring_multiple, ring_product}
+use Rattle.ring_spec.specs.Pairs.{Cipher}
+use Rattle.bfv_spec.specs.Scheme.{delta, remainder, limit, phase, decryption, Carries, pk_share, IsPublicKey}
 use Rattle.ring_laws.specs.Aggregate.{ring_total}
 use Rattle.bfv_laws.specs.Parties.{Party, parts, noises, key_shares, decryption_shares}
 use Rattle.ring_laws.specs.Congruence.{Agree}
 use Rattle.ring_laws.proofs.Integers.{sums}
 use Rattle.ring_laws.proofs.Products.{wrapped_sum_right, wrapped_zero_right}
-use Rattle.ring_laws.proofs.Congruences.{agree_self, agree_chain}
-use Rattle.ring_laws.proofs.Residues.{residues_poly, coefficients_agree, sum_poly, difference_poly, product_poly}
-use Rattle.ring_laws.proofs.Rings.{by_coefficients, sum_agrees, difference_agrees, negative_agrees, multiple_agrees, product_agrees}
+use Rattle.ring_laws.proofs.Congruences.{agree_self}
+use Rattle.ring_laws.proofs.Residues.{residues_poly, coefficients_agree, sum_poly, difference_poly}
+use Rattle.ring_laws.proofs.Rings.{by_coefficients, sum_agrees, difference_agrees, negative_agrees, product_agrees}
 use Rattle.ring_laws.proofs.Sizes.{size_sum}
 use Rattle.ring_laws.proofs.Aggregates.{total_poly, size_total}
 use Rattle.bfv_laws.proofs.Noise.{share_is_key}
-use Rattle.bfv_laws.proofs.Decryptions.{phase_decrypts}
+use Rattle.bfv_laws.proofs.Decryptions.{phase_decrypts, limit_is}
 
 -- two shares of the public key add up to the share of both parts
 pub shares_add : (q n : ℕ) (a s e z d : List ℕ) → 0 < q → ring_sum q n (pk_share q n a s e) (pk_share q n a z d) ≡ pk_share q n a (ring_sum q n s z) (ring_sum q n e d)
@@ -30,11 +29,11 @@ shares_add q n a s e z d h =
     (ring_sum q n one two) (ring_sum q n (ring_negative q n (ring_product q n a sz)) ed) h
     (sum_poly q n one two h) (sum_poly q n (ring_negative q n (ring_product q n a sz)) ed h)
     (sum_agrees one two h
-      (sum_agrees (ring_negative q n (ring_product q n a s)) e h (negative_agrees (ring_product q n a s) h (product_agrees a s h (agree_self q n A) (agree_self q n S))) (agree_self q n E))
-      (sum_agrees (ring_negative q n (ring_product q n a z)) d h (negative_agrees (ring_product q n a z) h (product_agrees a z h (agree_self q n A) (agree_self q n Z))) (agree_self q n D)))
+    (sum_agrees (ring_negative q n (ring_product q n a s)) e h (negative_agrees (ring_product q n a s) h (product_agrees a s h (agree_self q n A) (agree_self q n S))) (agree_self q n E))
+    (sum_agrees (ring_negative q n (ring_product q n a z)) d h (negative_agrees (ring_product q n a z) h (product_agrees a z h (agree_self q n A) (agree_self q n Z))) (agree_self q n D)))
     (sum_agrees (ring_negative q n (ring_product q n a sz)) ed h
-      (negative_agrees (ring_product q n a sz) h (product_agrees a sz h (agree_self q n A) (sum_agrees s z h (agree_self q n S) (agree_self q n Z))))
-      (sum_agrees e d h (agree_self q n E) (agree_self q n D)))
+    (negative_agrees (ring_product q n a sz) h (product_agrees a sz h (agree_self q n A) (sum_agrees s z h (agree_self q n S) (agree_self q n Z))))
+    (sum_agrees e d h (agree_self q n E) (agree_self q n D)))
     (λ i l. omega (arith, sums, wrapped_sum_right n A S Z i l))
 
 -- the share of no part with no noise is nothing
@@ -77,11 +76,11 @@ dec_shares_add q n c s f z g h =
     (ring_sum q n one two) (ring_sum q n (ring_product q n c sz) fg) h
     (sum_poly q n one two h) (sum_poly q n (ring_product q n c sz) fg h)
     (sum_agrees one two h
-      (sum_agrees (ring_product q n c s) f h (product_agrees c s h (agree_self q n C) (agree_self q n S)) (agree_self q n F))
-      (sum_agrees (ring_product q n c z) g h (product_agrees c z h (agree_self q n C) (agree_self q n Z)) (agree_self q n G)))
+    (sum_agrees (ring_product q n c s) f h (product_agrees c s h (agree_self q n C) (agree_self q n S)) (agree_self q n F))
+    (sum_agrees (ring_product q n c z) g h (product_agrees c z h (agree_self q n C) (agree_self q n Z)) (agree_self q n G)))
     (sum_agrees (ring_product q n c sz) fg h
-      (product_agrees c sz h (agree_self q n C) (sum_agrees s z h (agree_self q n S) (agree_self q n Z)))
-      (sum_agrees f g h (agree_self q n F) (agree_self q n G)))
+    (product_agrees c sz h (agree_self q n C) (sum_agrees s z h (agree_self q n S) (agree_self q n Z)))
+    (sum_agrees f g h (agree_self q n F) (agree_self q n G)))
     (λ i l. omega (arith, sums, wrapped_sum_right n C S Z i l))
 
 dec_share_of_nothing : (q n : ℕ) (c : List ℕ) → 0 < q → residues q n (λ i. pos 0) ≡ ring_sum q n (ring_product q n c (residues q n (λ i. pos 0))) (residues q n (λ i. pos 0))
@@ -118,12 +117,12 @@ joint_noise q n t v w c m ps h cm p l =
     let off = ring_difference q n ph dm in
     let at_cs : Agree q n (coefficient (ring_product q n c.c1 s)) (wrapped n C1 S) = product_agrees c.c1 s h (agree_self q n C1) (agree_self q n S) in
     let e : ring_difference q n (ring_sum q n c.c0 share) dm ≡ ring_sum q n off f =
-        by_coefficients (minus (plus C0 (plus (wrapped n C1 S) F)) DM) (plus (minus (plus C0 (wrapped n C1 S)) DM) F)
-        (ring_difference q n (ring_sum q n c.c0 share) dm) (ring_sum q n off f) h
-        (difference_poly q n (ring_sum q n c.c0 share) dm h) (sum_poly q n off f h)
-        (difference_agrees (ring_sum q n c.c0 share) dm h (sum_agrees c.c0 share h (agree_self q n C0) (sum_agrees (ring_product q n c.c1 s) f h at_cs (agree_self q n F))) (agree_self q n DM))
-        (sum_agrees off f h (difference_agrees ph dm h (sum_agrees c.c0 (ring_product q n c.c1 s) h (agree_self q n C0) at_cs) (agree_self q n DM)) (agree_self q n F))
-        (λ i r. omega (arith, sums)) in
+    by_coefficients (minus (plus C0 (plus (wrapped n C1 S) F)) DM) (plus (minus (plus C0 (wrapped n C1 S)) DM) F)
+    (ring_difference q n (ring_sum q n c.c0 share) dm) (ring_sum q n off f) h
+    (difference_poly q n (ring_sum q n c.c0 share) dm h) (sum_poly q n off f h)
+    (difference_agrees (ring_sum q n c.c0 share) dm h (sum_agrees c.c0 share h (agree_self q n C0) (sum_agrees (ring_product q n c.c1 s) f h at_cs (agree_self q n F))) (agree_self q n DM))
+    (sum_agrees off f h (difference_agrees ph dm h (sum_agrees c.c0 (ring_product q n c.c1 s) h (agree_self q n C0) at_cs) (agree_self q n DM)) (agree_self q n F))
+    (λ i r. omega (arith, sums)) in
     let a : size q (ring_sum q n off f) ≤ size q off + size q f = size_sum q n off f h (difference_poly q n ph dm h) (total_poly q n (noises ps) h) in
     let b : size q f ≤ length (noises ps) * w = size_total q n w (noises ps) h p l in
     rw (decryption_shares_total q n c.c1 ps h, e) (omega (arith, cm.noise))
@@ -135,3 +134,10 @@ pub joint_decrypts : (q n t v w : ℕ) (c : Cipher) (m : List ℕ) (ps : List Pa
 joint_decrypts q n t v w c m ps h ht pm cm p l r =
     phase_decrypts q n t (v + length (noises ps) * w) (ring_sum q n c.c0 (ring_total q n (decryption_shares q n c.c1 ps))) m h ht
     (sum_poly q n c.c0 (ring_total q n (decryption_shares q n c.c1 ps)) h) pm (joint_noise q n t v w c m ps h cm p l) r
+
+-- the same, where v and w for each party are together at most the limit
+pub joint_limit_decrypts : (q n t v w : ℕ) (c : Cipher) (m : List ℕ) (ps : List Party) → 0 < t → 2 * remainder q t * (t - 1) < q → IsPoly t n m → Carries q n t (ring_total q n (parts ps)) v c m →
+    All (IsPoly q n) (noises ps) → All (λ f. size q f ≤ w) (noises ps) → v + length (noises ps) * w ≤ limit q t →
+    decryption q t (ring_sum q n c.c0 (ring_total q n (decryption_shares q n c.c1 ps))) ≡ m
+joint_limit_decrypts q n t v w c m ps ht r pm cm p l b =
+    joint_decrypts q n t v w c m ps (omega arith) ht pm cm p l (limit_is q t (v + length (noises ps) * w) ht r b)

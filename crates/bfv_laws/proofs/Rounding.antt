@@ -1,10 +1,9 @@
 -- Decryption gives the plaintext that is carried, where the noise is at most the limit.
-use Rattle.std.proofs.Common.{◌≡◌, ℕ, zero, suc, ◌+◌, ◌-◌, ◌*◌, ◌/◌, ◌%◌, ◌≤◌, ◌<◌, List, map, length, get_or, refl, sym, ap, ◌∙◌, arith}
-use Rattle.std.specs.Prelude.{ℤ, pos, negsuc, ◌+ℤ◌, ◌-ℤ◌, ◌*ℤ◌, neg_ℤ, unsigned_abs}
+use Rattle.std.proofs.Common.{◌≡◌, ℕ, suc, ◌+◌, ◌-◌, ◌*◌, ◌/◌, ◌%◌, ◌≤◌, ◌<◌, ap, ◌∙◌, arith}
+use Rattle.std.specs.Prelude.{ℤ, pos, negsuc, ◌+ℤ◌, ◌*ℤ◌, unsigned_abs}
 use Rattle.std.proofs.lemmas.Nat.{mul-le, div-mul-add, mod-mul-add}
-use Rattle.bfv_spec.specs.Scheme.{delta, remainder, limit, rounded}
+use Rattle.bfv_spec.specs.Scheme.{delta, remainder, rounded}
 use Rattle.ring_laws.proofs.Integers.{sums, times_negative}
-use borrow.Author.Differences.{ints}
 
 -- where 2tx + q is 2q * (m + t*k) and less than 2q more, x is rounded to m
 quotient_is : (q t x m k s : ℕ) → 0 < t → m < t → s < 2 * q → 2 * t * x + q ≡ (k * t + m) * (2 * q) + s → rounded q t x ≡ m

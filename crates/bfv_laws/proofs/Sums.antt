@@ -1,11 +1,11 @@
 -- The noise of a sum: the sum of the noises, and r more where the plaintexts' sum wraps modulo t.
-use Rattle.std.proofs.Common.{◌≡◌, ℕ, zero, suc, ◌+◌, ◌-◌, ◌*◌, ◌/◌, ◌%◌, ◌≤◌, ◌<◌, List, length, get_or, refl, sym, ap, ◌∙◌, arith}
-use Rattle.std.specs.Prelude.{ℤ, pos, negsuc, ◌+ℤ◌, ◌-ℤ◌, ◌*ℤ◌, neg_ℤ, unsigned_abs}
+use Rattle.std.proofs.Common.{◌≡◌, ℕ, ◌+◌, ◌*◌, ◌/◌, ◌%◌, ◌≤◌, ◌<◌, List, get_or, ap, ◌∙◌, arith}
+use Rattle.std.specs.Prelude.{pos, neg_ℤ}
 use Rattle.std.proofs.lemmas.Nat.{mul-le, div_below}
-use Rattle.ring_spec.specs.Ring.{wrapped, residue, plus, minus, times, coefficient, size, IsWithin, IsPoly, ring_sum, ring_difference, ring_multiple, ring_product}
+use Rattle.ring_spec.specs.Ring.{wrapped, plus, minus, times, coefficient, size, IsWithin, IsPoly, ring_sum, ring_difference, ring_multiple, ring_product}
 use Rattle.ring_spec.specs.Pairs.{Cipher}
 use Rattle.bfv_spec.specs.Scheme.{delta, remainder, cipher_sum, phase, Carries}
-use Rattle.ring_laws.specs.Congruence.{IsCongruent, Agree, centred}
+use Rattle.ring_laws.specs.Congruence.{Agree, centred}
 use Rattle.ring_laws.proofs.Integers.{sums}
 use Rattle.ring_laws.proofs.Products.{wrapped_sum_left}
 use Rattle.ring_laws.proofs.Congruences.{agree_self, agree_chain, agree_sum, agree_back}
@@ -20,7 +20,7 @@ carry : (q t x y : ℕ) → 0 < t → delta q t * x + delta q t * y + remainder 
 carry q t x y h =
     let D = q / t in let r = q % t in let k = (x + y) / t in let m = (x + y) % t in
     let e : D * x + D * y ≡ t * D * k + D * m =
-        (let e' : D * x + D * y ≡ D * (x + y) = omega arith in e') ∙ ap (λ (z : ℕ). D * z) (let e' : x + y ≡ t * k + m = omega (arith, h) in e') ∙ omega arith in
+    (let e' : D * x + D * y ≡ D * (x + y) = omega arith in e') ∙ ap (λ (z : ℕ). D * z) (let e' : x + y ≡ t * k + m = omega (arith, h) in e') ∙ omega arith in
     let f : q * k ≡ t * D * k + r * k = ap (λ (z : ℕ). z * k) (let e' : q ≡ t * D + r = omega (arith, h) in e') ∙ omega arith in
     omega arith
 
@@ -44,18 +44,18 @@ sum_carries q n t v w c d m l s h ht pm pl cm dl =
     let X = minus (plus (plus C0 D0) (wrapped n (plus C1 D1) S)) (times (pos D) ML) in
     let Z1 = centred q n1 in let Z2 = centred q n2 in
     let at_n1 : Agree q n A1 Z1 =
-        agree_chain (agree_back (difference_agrees (phase q n s c) (ring_multiple q n D m) h
-          (sum_agrees c.c0 (ring_product q n c.c1 s) h (agree_self q n C0) (product_agrees c.c1 s h (agree_self q n C1) (agree_self q n S)))
-          (multiple_agrees D m h (agree_self q n M)))) (centred_agrees q n n1) in
+    agree_chain (agree_back (difference_agrees (phase q n s c) (ring_multiple q n D m) h
+    (sum_agrees c.c0 (ring_product q n c.c1 s) h (agree_self q n C0) (product_agrees c.c1 s h (agree_self q n C1) (agree_self q n S)))
+    (multiple_agrees D m h (agree_self q n M)))) (centred_agrees q n n1) in
     let at_n2 : Agree q n A2 Z2 =
-        agree_chain (agree_back (difference_agrees (phase q n s d) (ring_multiple q n D l) h
-          (sum_agrees d.c0 (ring_product q n d.c1 s) h (agree_self q n D0) (product_agrees d.c1 s h (agree_self q n D1) (agree_self q n S)))
-          (multiple_agrees D l h (agree_self q n L)))) (centred_agrees q n n2) in
+    agree_chain (agree_back (difference_agrees (phase q n s d) (ring_multiple q n D l) h
+    (sum_agrees d.c0 (ring_product q n d.c1 s) h (agree_self q n D0) (product_agrees d.c1 s h (agree_self q n D1) (agree_self q n S)))
+    (multiple_agrees D l h (agree_self q n L)))) (centred_agrees q n n2) in
     let at_all : Agree q n (coefficient all) X =
-        difference_agrees f (ring_multiple q n D ml) h
-        (sum_agrees c0 (ring_product q n c1 s) h (sum_agrees c.c0 d.c0 h (agree_self q n C0) (agree_self q n D0))
-          (product_agrees c1 s h (sum_agrees c.c1 d.c1 h (agree_self q n C1) (agree_self q n D1)) (agree_self q n S)))
-        (multiple_agrees D ml h (agree_self q n ML)) in
+    difference_agrees f (ring_multiple q n D ml) h
+    (sum_agrees c0 (ring_product q n c1 s) h (sum_agrees c.c0 d.c0 h (agree_self q n C0) (agree_self q n D0))
+    (product_agrees c1 s h (sum_agrees c.c1 d.c1 h (agree_self q n C1) (agree_self q n D1)) (agree_self q n S)))
+    (multiple_agrees D ml h (agree_self q n ML)) in
     let parts : Agree q n X (plus (plus A1 A2) R) = record {
       each = λ i p. record {
         k = pos ((get_or m i 0 + get_or l i 0) / t);
@@ -63,18 +63,18 @@ sum_carries q n t v w c d m l s h ht pm pl cm dl =
       };
     } in
     let within_r : IsWithin n r R =
-        λ i p.
-        let few : (get_or m i 0 + get_or l i 0) / t < 2 =
-            div_below (get_or m i 0 + get_or l i 0) t 2 ht (omega (arith, entry_below t n m i pm p, entry_below t n l i pl p)) in
-        let most : r * ((get_or m i 0 + get_or l i 0) / t) ≤ r * 1 = mul-le r ((get_or m i 0 + get_or l i 0) / t) r 1 (omega arith) (omega arith) in
-        omega (arith, ints) in
+    λ i p.
+    let few : (get_or m i 0 + get_or l i 0) / t < 2 =
+    div_below (get_or m i 0 + get_or l i 0) t 2 ht (omega (arith, entry_below t n m i pm p, entry_below t n l i pl p)) in
+    let most : r * ((get_or m i 0 + get_or l i 0) / t) ≤ r * 1 = mul-le r ((get_or m i 0 + get_or l i 0) / t) r 1 (omega arith) (omega arith) in
+    omega (arith, ints) in
     let p1 = difference_poly q n (phase q n s c) (ring_multiple q n D m) h in
     let p2 = difference_poly q n (phase q n s d) (ring_multiple q n D l) h in
     record {
       noise =
-        size_within (v + w + r) all (plus (plus Z1 Z2) R) (difference_poly q n f (ring_multiple q n D ml) h)
-        (agree_chain at_all (agree_chain parts (agree_sum (agree_sum at_n1 at_n2) (agree_self q n R))))
-        (within_sum n (v + w) r (plus Z1 Z2) R
+          size_within (v + w + r) all (plus (plus Z1 Z2) R) (difference_poly q n f (ring_multiple q n D ml) h)
+          (agree_chain at_all (agree_chain parts (agree_sum (agree_sum at_n1 at_n2) (agree_self q n R))))
+          (within_sum n (v + w) r (plus Z1 Z2) R
           (within_sum n v w Z1 Z2 (within_more n (size q n1) v Z1 cm.noise (centred_within q n n1 p1)) (within_more n (size q n2) w Z2 dl.noise (centred_within q n n2 p2)))
           within_r);
     }

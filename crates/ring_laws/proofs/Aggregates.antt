@@ -1,6 +1,6 @@
 -- Sums of lists of polynomials: entry by entry, in any order, in parts, and how large they are.
-use Rattle.std.proofs.Common.{◌≡◌, ℕ, ◌+◌, ◌*◌, ◌%◌, ◌≤◌, ◌<◌, List, [], ◌∷◌, ◌++◌, length, get_or, refl, sym, ap, ◌∙◌, arith}
-use Rattle.std.specs.Prelude.{ℤ, pos, ◌+ℤ◌, All, sum_by, IsPermutation}
+use Rattle.std.proofs.Common.{◌≡◌, ℕ, ◌+◌, ◌*◌, ◌%◌, ◌≤◌, ◌<◌, List, [], ◌∷◌, ◌++◌, length, get_or, sym, ap, ◌∙◌, arith}
+use Rattle.std.specs.Prelude.{pos, All, sum_by, IsPermutation}
 use Rattle.std.proofs.lemmas.List.{ext_get_or}
 use Rattle.std.proofs.lemmas.List.Elements.{All-head, All-tail}
 use Rattle.std.proofs.lemmas.List.Sums.{sum_by-cons}
@@ -39,7 +39,7 @@ total_permutation q n fs gs h p =
     let a = total_poly q n gs h in let b = total_poly q n fs h in
     ext_get_or 0 (ring_total q n gs) (ring_total q n fs) (omega (arith, a.entries, b.entries))
     (λ i l. let l' : i < n = omega (arith, a.entries) in
-        total_at q n gs i l' ∙ ap (λ (x : ℕ). x % q) (sum_by-IsPermutation (λ (g : List ℕ). get_or g i 0) fs gs p) ∙ sym (total_at q n fs i l'))
+    total_at q n gs i l' ∙ ap (λ (x : ℕ). x % q) (sum_by-IsPermutation (λ (g : List ℕ). get_or g i 0) fs gs p) ∙ sym (total_at q n fs i l'))
 
 -- a sum in two parts
 pub total_append : (q n : ℕ) (fs gs : List (List ℕ)) → 0 < q → ring_total q n (fs ++ gs) ≡ ring_sum q n (ring_total q n fs) (ring_total q n gs)
@@ -56,7 +56,7 @@ size_total q n v [] h p l =
     let e : size q (residues q n (λ i. pos 0)) ≤ 0 = size_residues q n 0 (λ i. pos 0) h (λ i r. omega arith) in omega arith
 size_total q n v (f ∷ fs) h p l =
     let a : size q (ring_sum q n f (ring_total q n fs)) ≤ size q f + size q (ring_total q n fs) =
-        size_sum q n f (ring_total q n fs) h (All-head (IsPoly q n) f fs p) (total_poly q n fs h) in
+    size_sum q n f (ring_total q n fs) h (All-head (IsPoly q n) f fs p) (total_poly q n fs h) in
     let b : size q (ring_total q n fs) ≤ length fs * v = size_total q n v fs h (All-tail (IsPoly q n) f fs p) (All-tail (λ f. size q f ≤ v) f fs l) in
     let c : size q f ≤ v = All-head (λ f. size q f ≤ v) f fs l in
     omega arith

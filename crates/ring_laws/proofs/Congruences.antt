@@ -13,26 +13,33 @@ use Rattle.ring_laws.proofs.Products.{shifted, shifted_low, shifted_high, wrappe
 pub congruent_equal : (q : ℕ) (z w : ℤ) → z ≡ w → IsCongruent q z w
 congruent_equal q z w e = record { k = pos 0; is = e ∙ (omega (arith, sums, times_zero (pos q))) }
 
+-- a number agrees with itself
 pub congruent_self : (q : ℕ) (z : ℤ) → IsCongruent q z z
 congruent_self q z = congruent_equal q z z refl
 
+-- agreement goes both ways
 pub congruent_back : {q : ℕ} {z w : ℤ} → IsCongruent q z w → IsCongruent q w z
 congruent_back {q} {z} {w} c = record { k = neg_ℤ c.k; is = omega (arith, sums, c.is, times_negative (pos q) c.k) }
 
+-- numbers that agree with one number agree
 pub congruent_chain : {q : ℕ} {z w x : ℤ} → IsCongruent q z w → IsCongruent q w x → IsCongruent q z x
 congruent_chain {q} {z} {w} {x} c d =
     record { k = c.k +ℤ d.k; is = omega (arith, sums, c.is, d.is, times_sum (pos q) c.k d.k) }
 
+-- sums of numbers that agree
 pub congruent_sum : {q : ℕ} {z w x y : ℤ} → IsCongruent q z w → IsCongruent q x y → IsCongruent q (z +ℤ x) (w +ℤ y)
 congruent_sum {q} {z} {w} {x} {y} c d =
     record { k = c.k +ℤ d.k; is = omega (arith, sums, c.is, d.is, times_sum (pos q) c.k d.k) }
 
+-- negatives of numbers that agree
 pub congruent_negative : {q : ℕ} {z w : ℤ} → IsCongruent q z w → IsCongruent q (neg_ℤ z) (neg_ℤ w)
 congruent_negative {q} {z} {w} c = record { k = neg_ℤ c.k; is = omega (arith, sums, c.is, times_negative (pos q) c.k) }
 
+-- differences of numbers that agree
 pub congruent_difference : {q : ℕ} {z w x y : ℤ} → IsCongruent q z w → IsCongruent q x y → IsCongruent q (z -ℤ x) (w -ℤ y)
 congruent_difference c d = congruent_sum c (congruent_negative d)
 
+-- multiples of numbers that agree
 pub congruent_times : {q : ℕ} {z w : ℤ} (x : ℤ) → IsCongruent q z w → IsCongruent q (x *ℤ z) (x *ℤ w)
 congruent_times {q} {z} {w} x c = record {
   k = x *ℤ c.k;
@@ -40,6 +47,7 @@ congruent_times {q} {z} {w} x c = record {
       ∙ ap (λ (y : ℤ). x *ℤ w +ℤ y) (sym (times_times x (pos q) c.k) ∙ ap (λ (y : ℤ). y *ℤ c.k) (times_commutes x (pos q)) ∙ times_times (pos q) x c.k);
 }
 
+-- products of numbers that agree
 pub congruent_product : {q : ℕ} {z w x y : ℤ} → IsCongruent q z w → IsCongruent q x y → IsCongruent q (z *ℤ x) (w *ℤ y)
 congruent_product {q} {z} {w} {x} {y} c d =
     congruent_chain (congruent_times z d)
@@ -91,27 +99,35 @@ unfolding total
 total_congruent q zero f g c = congruent_self q (pos 0)
 total_congruent q (suc n) f g c = congruent_sum (total_congruent q n f g (λ i l. c i (omega arith))) (c n (omega arith))
 
+-- polynomials that are equal at each place below n agree
 pub agree_equal : (q n : ℕ) (a b : ℕ → ℤ) → ((i : ℕ) → i < n → a i ≡ b i) → Agree q n a b
 agree_equal q n a b e = record { each = λ i l. congruent_equal q (a i) (b i) (e i l) }
 
+-- a polynomial agrees with itself
 pub agree_self : (q n : ℕ) (a : ℕ → ℤ) → Agree q n a a
 agree_self q n a = record { each = λ i l. congruent_self q (a i) }
 
+-- agreement goes both ways
 pub agree_back : {q n : ℕ} {a b : ℕ → ℤ} → Agree q n a b → Agree q n b a
 agree_back c = record { each = λ i l. congruent_back (c.each i l) }
 
+-- polynomials that agree with one polynomial agree
 pub agree_chain : {q n : ℕ} {a b c : ℕ → ℤ} → Agree q n a b → Agree q n b c → Agree q n a c
 agree_chain c d = record { each = λ i l. congruent_chain (c.each i l) (d.each i l) }
 
+-- sums of polynomials that agree
 pub agree_sum : {q n : ℕ} {a b c d : ℕ → ℤ} → Agree q n a c → Agree q n b d → Agree q n (plus a b) (plus c d)
 agree_sum c d = record { each = λ i l. congruent_sum (c.each i l) (d.each i l) }
 
+-- differences of polynomials that agree
 pub agree_difference : {q n : ℕ} {a b c d : ℕ → ℤ} → Agree q n a c → Agree q n b d → Agree q n (minus a b) (minus c d)
 agree_difference c d = record { each = λ i l. congruent_difference (c.each i l) (d.each i l) }
 
+-- negatives of polynomials that agree
 pub agree_negative : {q n : ℕ} {a b : ℕ → ℤ} → Agree q n a b → Agree q n (negated a) (negated b)
 agree_negative c = record { each = λ i l. congruent_negative (c.each i l) }
 
+-- multiples of polynomials that agree
 pub agree_times : {q n : ℕ} {a b : ℕ → ℤ} (z : ℤ) → Agree q n a b → Agree q n (times z a) (times z b)
 agree_times z c = record { each = λ i l. congruent_times z (c.each i l) }
 

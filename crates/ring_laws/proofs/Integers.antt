@@ -51,16 +51,19 @@ negative_times a b =
       ap (λ (n : ℕ). n * down b) (neg_is a).1,
     )
 
+-- the same on the other side
 pub times_negative : (a b : ℤ) → a *ℤ neg_ℤ b ≡ neg_ℤ (a *ℤ b)
 times_negative a b = times_commutes a (neg_ℤ b) ∙ negative_times b a ∙ ap neg_ℤ (times_commutes b a)
 
--- nothing, and one, as factors
+-- nothing as a factor
 pub times_zero : (a : ℤ) → a *ℤ pos 0 ≡ pos 0
 times_zero a = times_commutes a (pos 0) ∙ zero-*ℤ a
 
+-- the same on the other side
 pub zero_times : (a : ℤ) → pos 0 *ℤ a ≡ pos 0
 zero_times a = zero-*ℤ a
 
+-- one as a factor
 pub one_times : (a : ℤ) → pos 1 *ℤ a ≡ a
 one_times a = omega (arith, sums, product_is)
 
@@ -68,5 +71,6 @@ one_times a = omega (arith, sums, product_is)
 pub abs_sum : (a b : ℤ) → unsigned_abs (a +ℤ b) ≤ unsigned_abs a + unsigned_abs b
 abs_sum a b = omega (arith, ints)
 
+-- a sign changes no absolute value
 pub abs_negative : (a : ℤ) → unsigned_abs (neg_ℤ a) ≡ unsigned_abs a
 abs_negative a = omega (arith, ints)

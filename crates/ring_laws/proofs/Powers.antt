@@ -17,14 +17,17 @@ unit n r k = cond (nat_eq r k) (pos 1) (cond (nat_eq r (k + n)) (negsuc 0) (pos 
 abbrev pub power : ℕ → ℕ → ℕ → ℤ
 power n p k = unit n (p % (2 * n)) k
 
+-- coefficient r of X^r
 pub unit_one : (n r k : ℕ) → r ≡ k → unit n r k ≡ pos 1
 unit_one n r k e = cond-true (nat_eq r k) (pos 1) (cond (nat_eq r (k + n)) (negsuc 0) (pos 0)) (eq-eqb r k e)
 
+-- coefficient r - n of X^r
 pub unit_minus : (n r k : ℕ) → 0 < n → r ≡ k + n → unit n r k ≡ negsuc 0
 unit_minus n r k h e =
     cond-false (nat_eq r k) (pos 1) (cond (nat_eq r (k + n)) (negsuc 0) (pos 0)) (ne_eqb r k (λ e'. omega arith))
     ∙ cond-true (nat_eq r (k + n)) (negsuc 0) (pos 0) (eq-eqb r (k + n) e)
 
+-- the other coefficients of X^r
 pub unit_none : (n r k : ℕ) → (r ≡ k → ⊥) → (r ≡ k + n → ⊥) → unit n r k ≡ pos 0
 unit_none n r k e e' =
     cond-false (nat_eq r k) (pos 1) (cond (nat_eq r (k + n)) (negsuc 0) (pos 0)) (ne_eqb r k e)

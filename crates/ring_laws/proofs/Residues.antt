@@ -65,28 +65,33 @@ same_polys q n f g h p r c =
 
 -- ---- the operations on lists of residues
 
+-- the sum of residues is the residues of the sum
 pub sum_residues : (q n : ℕ) (a b : ℕ → ℤ) → 0 < q → ring_sum q n (residues q n a) (residues q n b) ≡ residues q n (plus a b)
 unfolding ring_sum
 sum_residues q n a b h =
     residues_same q n (plus (coefficient (residues q n a)) (coefficient (residues q n b))) (plus a b) h
     (agree_sum (coefficients_agree q n a h) (coefficients_agree q n b h))
 
+-- the same of a difference
 pub difference_residues : (q n : ℕ) (a b : ℕ → ℤ) → 0 < q → ring_difference q n (residues q n a) (residues q n b) ≡ residues q n (minus a b)
 unfolding ring_difference
 difference_residues q n a b h =
     residues_same q n (minus (coefficient (residues q n a)) (coefficient (residues q n b))) (minus a b) h
     (agree_difference (coefficients_agree q n a h) (coefficients_agree q n b h))
 
+-- the same of a negative
 pub negative_residues : (q n : ℕ) (a : ℕ → ℤ) → 0 < q → ring_negative q n (residues q n a) ≡ residues q n (negated a)
 unfolding ring_negative
 negative_residues q n a h =
     residues_same q n (negated (coefficient (residues q n a))) (negated a) h (agree_negative (coefficients_agree q n a h))
 
+-- the same of a multiple
 pub multiple_residues : (q n k : ℕ) (a : ℕ → ℤ) → 0 < q → ring_multiple q n k (residues q n a) ≡ residues q n (times (pos k) a)
 unfolding ring_multiple
 multiple_residues q n k a h =
     residues_same q n (times (pos k) (coefficient (residues q n a))) (times (pos k) a) h (agree_times (pos k) (coefficients_agree q n a h))
 
+-- the same of a product
 pub product_residues : (q n : ℕ) (a b : ℕ → ℤ) → 0 < q → ring_product q n (residues q n a) (residues q n b) ≡ residues q n (wrapped n a b)
 unfolding ring_product
 product_residues q n a b h =
@@ -95,22 +100,27 @@ product_residues q n a b h =
 
 -- ---- each operation gives a polynomial of the ring
 
+-- a sum is a polynomial of the ring, whatever the lists
 pub sum_poly : (q n : ℕ) (f g : List ℕ) → 0 < q → IsPoly q n (ring_sum q n f g)
 unfolding ring_sum
 sum_poly q n f g h = residues_poly q n (plus (coefficient f) (coefficient g)) h
 
+-- so is a difference
 pub difference_poly : (q n : ℕ) (f g : List ℕ) → 0 < q → IsPoly q n (ring_difference q n f g)
 unfolding ring_difference
 difference_poly q n f g h = residues_poly q n (minus (coefficient f) (coefficient g)) h
 
+-- so is a negative
 pub negative_poly : (q n : ℕ) (f : List ℕ) → 0 < q → IsPoly q n (ring_negative q n f)
 unfolding ring_negative
 negative_poly q n f h = residues_poly q n (negated (coefficient f)) h
 
+-- so is a multiple
 pub multiple_poly : (q n k : ℕ) (f : List ℕ) → 0 < q → IsPoly q n (ring_multiple q n k f)
 unfolding ring_multiple
 multiple_poly q n k f h = residues_poly q n (times (pos k) (coefficient f)) h
 
+-- so is a product
 pub product_poly : (q n : ℕ) (f g : List ℕ) → 0 < q → IsPoly q n (ring_product q n f g)
 unfolding ring_product
 product_poly q n f g h = residues_poly q n (wrapped n (coefficient f) (coefficient g)) h

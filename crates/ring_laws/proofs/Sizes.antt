@@ -17,15 +17,19 @@ use borrow.Author.Differences.{ints}
 
 -- ---- polynomials over the whole numbers
 
+-- bounds add up in a sum
 pub within_sum : (n v w : ℕ) (a b : ℕ → ℤ) → IsWithin n v a → IsWithin n w b → IsWithin n (v + w) (plus a b)
 within_sum n v w a b h l i p = omega (arith, h i p, l i p, abs_sum (a i) (b i))
 
+-- a negative keeps the bound
 pub within_negative : (n v : ℕ) (a : ℕ → ℤ) → IsWithin n v a → IsWithin n v (negated a)
 within_negative n v a h i p = omega (arith, h i p, abs_negative (a i))
 
+-- bounds add up in a difference
 pub within_difference : (n v w : ℕ) (a b : ℕ → ℤ) → IsWithin n v a → IsWithin n w b → IsWithin n (v + w) (minus a b)
 within_difference n v w a b h l = within_sum n v w a (negated b) h (within_negative n w b l)
 
+-- a multiple multiplies the bound
 pub within_times : (n k v : ℕ) (a : ℕ → ℤ) → IsWithin n v a → IsWithin n (k * v) (times (pos k) a)
 within_times n k v a h i p = omega (arith, unsigned_abs-mul (pos k) (a i), mul-le k (unsigned_abs (a i)) k v (omega arith) (h i p))
 
@@ -74,6 +78,7 @@ least q x k z h e = elim (cases_lt (2 * x) q) [
     far q x (pos k) z h l e = omega (arith, ints, e)
     far q x (negsuc k) z h l e = omega (arith, ints, e, times_negative (pos q) (pos (suc k)))
 
+-- the centre is least in absolute value among the numbers of its residue
 pub centre_least : (q x : ℕ) (z : ℤ) → x < q → IsCongruent q z (pos x) → unsigned_abs (centre q x) ≤ unsigned_abs z
 centre_least q x z h c = least q x c.k z h c.is
 
@@ -129,28 +134,33 @@ size_residues q n v a p h = size_within v (residues q n a) a (residues_poly q n 
 
 -- ---- the size of a result
 
+-- the size of a sum is at most the sum of the sizes
 pub size_sum : (q n : ℕ) (f g : List ℕ) → 0 < q → IsPoly q n f → IsPoly q n g → size q (ring_sum q n f g) ≤ size q f + size q g
 size_sum q n f g h p r =
     size_within (size q f + size q g) (ring_sum q n f g) (plus (centred q f) (centred q g)) (sum_poly q n f g h)
     (sum_agrees f g h (centred_agrees q n f) (centred_agrees q n g))
     (within_sum n (size q f) (size q g) (centred q f) (centred q g) (centred_within q n f p) (centred_within q n g r))
 
+-- so is that of a difference
 pub size_difference : (q n : ℕ) (f g : List ℕ) → 0 < q → IsPoly q n f → IsPoly q n g → size q (ring_difference q n f g) ≤ size q f + size q g
 size_difference q n f g h p r =
     size_within (size q f + size q g) (ring_difference q n f g) (minus (centred q f) (centred q g)) (difference_poly q n f g h)
     (difference_agrees f g h (centred_agrees q n f) (centred_agrees q n g))
     (within_difference n (size q f) (size q g) (centred q f) (centred q g) (centred_within q n f p) (centred_within q n g r))
 
+-- the size of a negative is at most the size
 pub size_negative : (q n : ℕ) (f : List ℕ) → 0 < q → IsPoly q n f → size q (ring_negative q n f) ≤ size q f
 size_negative q n f h p =
     size_within (size q f) (ring_negative q n f) (negated (centred q f)) (negative_poly q n f h)
     (negative_agrees f h (centred_agrees q n f)) (within_negative n (size q f) (centred q f) (centred_within q n f p))
 
+-- the size of k f is at most k times that of f
 pub size_multiple : (q n k : ℕ) (f : List ℕ) → 0 < q → IsPoly q n f → size q (ring_multiple q n k f) ≤ k * size q f
 size_multiple q n k f h p =
     size_within (k * size q f) (ring_multiple q n k f) (times (pos k) (centred q f)) (multiple_poly q n k f h)
     (multiple_agrees k f h (centred_agrees q n f)) (within_times n k (size q f) (centred q f) (centred_within q n f p))
 
+-- the size of a product is at most n times the product of the sizes
 pub size_product : (q n : ℕ) (f g : List ℕ) → 0 < q → IsPoly q n f → IsPoly q n g → size q (ring_product q n f g) ≤ n * size q f * size q g
 size_product q n f g h p r =
     size_within (n * size q f * size q g) (ring_product q n f g) (wrapped n (centred q f) (centred q g)) (product_poly q n f g h)

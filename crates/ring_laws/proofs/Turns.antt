@@ -135,14 +135,17 @@ agree_turned {q} {n} {a} {b} g c = record {
       (congruent_equal q (total n (λ i. b i *ℤ power n (i * g) k)) (turned n g b k) (sym (turned_is n g b k h))));
 }
 
+-- the coefficients of an image, from those of the list
 pub turned_agrees : {q n : ℕ} {a : ℕ → ℤ} (g : ℕ) (f : List ℕ) → 0 < q → Agree q n (coefficient f) a → Agree q n (coefficient (ring_turned q n g f)) (turned n g a)
 unfolding ring_turned
 turned_agrees {q} {n} g f h c = agree_chain (coefficients_agree q n (turned n g (coefficient f)) h) (agree_turned g c)
 
+-- an image is a polynomial of the ring
 pub turned_poly : (q n g : ℕ) (f : List ℕ) → 0 < q → IsPoly q n (ring_turned q n g f)
 unfolding ring_turned
 turned_poly q n g f h = residues_poly q n (turned n g (coefficient f)) h
 
+-- the image of residues is the residues of the image
 pub turned_residues : (q n g : ℕ) (a : ℕ → ℤ) → 0 < q → ring_turned q n g (residues q n a) ≡ residues q n (turned n g a)
 unfolding ring_turned
 turned_residues q n g a h = residues_same q n (turned n g (coefficient (residues q n a))) (turned n g a) h (agree_turned g (coefficients_agree q n a h))
