@@ -36,6 +36,19 @@ impl Tape {
         Tape { seed, rng }
     }
 
+    /// A second tape at the same place, for a caller that moves this one only once all else is done.
+    pub fn copied(&self) -> Tape
+        ensures { result ≡ self.now }
+    {
+        let mut rng = ChaCha20Rng::from_seed(self.seed);
+        rng.set_stream(self.rng.get_stream());
+        rng.set_word_pos(self.rng.get_word_pos());
+        Tape {
+            seed: self.seed,
+            rng,
+        }
+    }
+
     /// The next word.
     #[tactic(auto, using(crate::proofs::Places::word_at_place))]
     pub fn word(&mut self) -> u32
