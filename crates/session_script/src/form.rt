@@ -1,0 +1,147 @@
+ghost use Rattle.std.specs.Prelude.{◌≡◌, ◌<◌, [], ◌∷◌, length, map, slice_index_or, IfOk, IfErr, IsTrue, Some, None};
+ghost use Rattle.std.specs.Str.{bytes_eq};
+ghost use Rattle.std.specs.Option.{option_map};
+ghost use Rattle.session_script.specs.Words.{parts_at};
+ghost use Rattle.session_script.specs.Form.{entry, value, seed_line, input_line, line_at, has_head, has_tail, has_frame, spelled_inside, spelled_by_lines, form};
+ghost use Rattle.session_script.specs.declared.script.FormStop.TheVariants.{Form};
+ghost use Rattle.session_script.specs.Reading.{Reads, spelling};
+
+use crate::script::{FormStop, Script};
+use crate::words::{after, is, number, parts, seed};
+use param_set::{Params, Plain, Plains};
+use std::alloc::Global;
+
+/// Reads a script.
+pub fn read_form(alloc: Global, bytes: &[u8]) -> Result<Script, FormStop>
+    ensures spelled { IfOk result (λ s. form bytes.now ≡ Some (spelling s.master s.values)) }
+    ensures no_form { IfErr result (λ stop. stop ≡ Form → form bytes.now ≡ None) }
+{
+    let lines = parts(alloc, bytes, b'\n')?;
+    read_lines(alloc, lines.as_slice())
+}
+
+#[tactic(auto, unfolding(crate::specs::Form::spelled_by_lines))]
+fn read_lines(alloc: Global, lines: &[&[u8]]) -> Result<Script, FormStop>
+    ensures spelled { IfOk result (λ s. spelled_by_lines (map (λ l. l.now) lines.now) ≡ Some (spelling s.master s.values)) }
+    ensures no_form { IfErr result (λ stop. stop ≡ Form → spelled_by_lines (map (λ l. l.now) lines.now) ≡ None) }
+{
+    if !has_frame(lines) {
+        return Err(FormStop::Form);
+    }
+    read_inside(alloc, lines)
+}
+
+// Reads the seed and the two inputs, where the other lines stand.
+#[tactic(auto, unfolding(crate::specs::Form::spelled_inside))]
+fn read_inside(alloc: Global, lines: &[&[u8]]) -> Result<Script, FormStop>
+    requires { length lines.now ≡ 11 }
+    ensures spelled { IfOk result (λ s. spelled_inside (map (λ l. l.now) lines.now) ≡ Some (spelling s.master s.values)) }
+    ensures no_form { IfErr result (λ stop. stop ≡ Form → spelled_inside (map (λ l. l.now) lines.now) ≡ None) }
+{
+    let master = seed_line(line(lines, 2))?;
+    let first = input_line(alloc, line(lines, 5))?;
+    let second = input_line(alloc, line(lines, 6))?;
+    let mut values = Plains::new(alloc);
+    values.push(first)?;
+    values.push(second)?;
+    Ok(Script {
+        params: Params::frame(1, 1),
+        master,
+        values,
+    })
+}
+
+// Line k, counted from 0.
+fn line<'a>(lines: &[&'a [u8]], k: usize) -> &'a [u8]
+    requires { k < length lines.now }
+    ensures { result.now ≡ line_at (map (λ l. l.now) lines.now) k }
+{
+    lines[k]
+}
+
+// Whether line k is this text.
+fn stands(lines: &[&[u8]], k: usize, text: &str) -> bool
+    requires { k < length lines.now }
+    ensures { result ≡ bytes_eq (line_at (map (λ l. l.now) lines.now) k) text.now }
+{
+    is(line(lines, k), text)
+}
+
+// Whether all lines but those of the seed and of the inputs stand.
+#[tactic(auto, unfolding(crate::specs::Form::has_frame))]
+fn has_frame(lines: &[&[u8]]) -> bool
+    ensures count { IsTrue result → length lines.now ≡ 11 }
+    ensures value { result ≡ has_frame (map (λ l. l.now) lines.now) }
+{
+    lines.len() == 11 && has_head(lines) && has_tail(lines)
+}
+
+#[tactic(auto, unfolding(crate::specs::Form::has_head))]
+fn has_head(lines: &[&[u8]]) -> bool
+    requires { length lines.now ≡ 11 }
+    ensures { result ≡ has_head (map (λ l. l.now) lines.now) }
+{
+    stands(lines, 0, "helium 1")
+        && stands(lines, 1, "params 8 31525197391593473 16 3 8 1 1 1 1")
+        && stands(lines, 3, "present 1")
+        && stands(lines, 4, "circuit c")
+}
+
+#[tactic(auto, unfolding(crate::specs::Form::has_tail))]
+fn has_tail(lines: &[&[u8]]) -> bool
+    requires { length lines.now ≡ 11 }
+    ensures { result ≡ has_tail (map (λ l. l.now) lines.now) }
+{
+    stands(lines, 7, "add 0 1")
+        && stands(lines, 8, "end")
+        && stands(lines, 9, "done")
+        && stands(lines, 10, "")
+}
+
+#[tactic(auto, unfolding(crate::specs::Form::seed_line))]
+fn seed_line(line: &[u8]) -> Result<[u8; 32], FormStop>
+    ensures { Reads (seed_line line.now) result }
+{
+    after("seed ", line)
+        .and_then(|word| seed(word))
+        .ok_or(FormStop::Form)
+}
+
+#[tactic(auto, unfolding(crate::specs::Form::input_line))]
+fn input_line(alloc: Global, line: &[u8]) -> Result<Plain, FormStop>
+    ensures { Reads (input_line line.now) result }
+{
+    let Some(list) = after("input 1 ", line) else {
+        return Err(FormStop::Form);
+    };
+    let words = parts(alloc, list, b' ')?;
+    value(alloc, 8, 16, words.as_slice())
+}
+
+// The number below t that a word spells.
+#[tactic(auto, unfolding(crate::specs::Form::entry))]
+fn entry(t: u64, word: &[u8]) -> Option<u64>
+    ensures { result ≡ entry t word.now }
+{
+    let spelled = number(word)?;
+    if spelled < t { Some(spelled) } else { None }
+}
+
+// The value of n entries below t that at most n words spell.
+#[tactic(auto, unfolding(crate::specs::Form::value))]
+fn value(alloc: Global, n: usize, t: u64, words: &[&[u8]]) -> Result<Plain, FormStop>
+    ensures { Reads (value n t (map (λ w. w.now) words.now)) result }
+{
+    if words.len() > n {
+        return Err(FormStop::Form);
+    }
+    let mut coeffs = Vec::new(alloc);
+    'words: for word in words {
+        let Some(next) = entry(t, word) else {
+            return Err(FormStop::Form);
+        };
+        coeffs.push(next)?;
+    }
+    coeffs.resize(n, 0)?;
+    Ok(Plain::from_vec(coeffs))
+}
