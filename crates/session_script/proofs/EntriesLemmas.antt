@@ -3,6 +3,7 @@ use Rattle.std.proofs.Common.{◌≡◌, ℕ, ◌+◌, ◌-◌, ◌<◌, ◌≤�
 use Rattle.std.specs.Option.{option_map, option_and_then}
 use Rattle.std.specs.Borrow.{Bor}
 use Rattle.std.proofs.lemmas.List.{append-nil, length-map, take_all, drop_more, drop_all}
+use Rattle.session_script.specs.Words.{texts}
 use Rattle.session_script.specs.Form.{entry, entries, value, filled}
 
 -- a list and, behind it, the list that may be there
@@ -24,10 +25,6 @@ behind-entries t x xs word rest spells = rw spells (behind-cons x xs (entries t 
 entries-no_entry : (t : ℕ) (word : List ℕ) (rest : List (List ℕ)) → entry t word ≡ None → entries t (word ∷ rest) ≡ None
 unfolding entries
 entries-no_entry t word rest none = rw none refl
-
--- the list of the texts that a list of slices has
-abbrev pub texts : List (Bor (List ℕ)) → List (List ℕ)
-texts ws = map (λ w. w.now) ws
 
 -- the entries so far, with those of the words from place i on
 abbrev pub entries_from : ℕ → List ℕ → ℕ → List (Bor (List ℕ)) → Option (List ℕ)

@@ -1,1 +1,3 @@
 pub mod EntriesLemmas
+pub mod FitsLemmas
+mod Instances

@@ -1,5 +1,5 @@
 -- The one form of script that is read: the lines of a text, and what they spell.
-use Rattle.std.specs.Prelude.{ℕ, ◌+◌, ◌-◌, ◌==◌, ◌&&◌, nat_lt, nat_le, Bool, if◌then◌else◌, List, [], ◌∷◌, ◌++◌, length, replicate, slice_index_or, codes, Option, Some, None, option_and_then}
+use Rattle.std.specs.Prelude.{◌≡◌, ℕ, ◌+◌, ◌-◌, ◌<◌, All, ◌==◌, ◌&&◌, nat_lt, nat_le, Bool, if◌then◌else◌, List, [], ◌∷◌, ◌++◌, length, replicate, slice_index_or, codes, Option, Some, None, option_and_then}
 use Rattle.std.specs.Option.{option_map}
 use Rattle.std.specs.Str.{bytes_eq}
 use Rattle.session_script.specs.Words.{parts_at, after, number, seed}
@@ -87,3 +87,14 @@ spelled_by_lines lines = if has_frame lines then spelled_inside lines else None
 -- what a text spells
 abbrev pub form : List ℕ → Option Spelled
 form text = spelled_by_lines (parts_at 10 text)
+
+-- a list of n numbers below t
+pub record IsValue (n t : ℕ) (xs : List ℕ) : Type 0 where
+  pub entries : length xs ≡ n
+  pub below : All (λ x. x < t) xs
+
+-- a seed of 32 bytes, and two values of 8 entries below 16
+pub record Fits (spelled : Spelled) : Type 0 where
+  pub master : IsValue 32 256 spelled.master
+  pub first : IsValue 8 16 spelled.first
+  pub second : IsValue 8 16 spelled.second

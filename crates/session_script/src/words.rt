@@ -1,15 +1,15 @@
-ghost use Rattle.std.specs.Prelude.{◌≡◌, map, IfOk};
+ghost use Rattle.std.specs.Prelude.{◌≡◌, IfOk};
 ghost use Rattle.std.specs.Str.{bytes_eq};
 ghost use Rattle.std.specs.List.{list_all};
 ghost use Rattle.std.specs.Option.{option_map};
-ghost use Rattle.session_script.specs.Words.{parts_at, after, is_lower_hex, digits_behind, number, seed};
+ghost use Rattle.session_script.specs.Words.{texts, parts_at, after, is_lower_hex, digits_behind, number, seed};
 
 use hex::FromHex;
 use std::alloc::{AllocError, Global};
 
 // The pieces between the bytes `at`, none of them copied.
 pub(crate) fn parts(alloc: Global, text: &[u8], at: u8) -> Result<Vec<&[u8]>, AllocError>
-    ensures { IfOk result (λ pieces. map (λ piece. piece.now) pieces.items ≡ parts_at at text.now) }
+    ensures { IfOk result (λ pieces. texts pieces.items ≡ parts_at at text.now) }
 {
     text.split(|b| *b == at).collect(alloc)
 }

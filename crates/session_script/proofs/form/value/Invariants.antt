@@ -1,7 +1,8 @@
 -- The entries so far, one a word, with those of the words that are left, are those of all words.
 use Rattle.std.proofs.Common.{◌≡◌, vec_len}
+use Rattle.session_script.specs.Words.{texts}
 use Rattle.session_script.specs.Form.{entries}
-use Rattle.session_script.proofs.EntriesLemmas.{entries_from, texts}
+use Rattle.session_script.proofs.EntriesLemmas.{entries_from}
 use Rattle.session_script.proofs.form.value.Given as goal
 
 abbrev pub invariant-words : goal.invariant-words
