@@ -1,10 +1,10 @@
 -- The entries that words spell, taken one word at a time.
-use Rattle.std.proofs.Common.{◌≡◌, ℕ, ◌+◌, ◌-◌, ◌<◌, ◌≤◌, List, [], ◌∷◌, ◌++◌, map, drop, take, length, replicate, get_or, Option, Some, None, refl, sym, ap, ◌∙◌, arith, append_assoc, le-leb}
-use Rattle.std.specs.Option.{option_map, option_and_then}
+use Rattle.std.proofs.Common.{◌≡◌, ℕ, ◌+◌, ◌-◌, ◌<◌, ◌≤◌, List, [], ◌∷◌, ◌++◌, drop, take, length, replicate, get_or, Option, Some, None, refl, sym, ap, ◌∙◌, arith, append_assoc, le-leb}
+use Rattle.std.specs.Option.{option_and_then}
 use Rattle.std.specs.Borrow.{Bor}
 use Rattle.std.proofs.lemmas.List.{append-nil, length-map, take_all, drop_more, drop_all}
 use Rattle.session_script.specs.Words.{texts}
-use Rattle.session_script.specs.Form.{entry, entries, value, filled}
+use Rattle.session_script.specs.Form.{entry, entries, value}
 
 -- a list and, behind it, the list that may be there
 abbrev pub behind : List ℕ → Option (List ℕ) → Option (List ℕ)

@@ -1,5 +1,5 @@
 -- What a text spells fits the parameters: 32 bytes, and two values of 8 entries below 16.
-use Rattle.std.proofs.Common.{◌≡◌, ℕ, ◌+◌, ◌-◌, ◌<◌, ◌≤◌, List, [], ◌∷◌, ◌++◌, length, replicate, All, Option, Some, None, Result, Ok, Err, refl, sym, ap, ◌∙◌, arith, Bool, true, false, codes, ltb, leb, leb-true, ltb-true, subst}
+use Rattle.std.proofs.Common.{◌≡◌, ℕ, ◌-◌, ◌<◌, ◌≤◌, List, [], ◌∷◌, length, replicate, All, Option, Some, None, Result, Ok, Err, refl, sym, ap, ◌∙◌, arith, Bool, true, false, codes, ltb, leb, leb-true, ltb-true, subst}
 use Rattle.std.specs.List.{list_all}
 use Rattle.std.specs.Option.{option_map, option_and_then}
 use Rattle.std.specs.Result.{result_ok}
@@ -17,9 +17,9 @@ entry-below : (t x : ℕ) (word : List ℕ) → entry t word ≡ Some x → x < 
 unfolding entry
 entry-below t x word e =
     option_and_then_some _ (number word) x e (λ v given small.
-      let both = cond_some (ltb v t) v x small in
-      let below = ltb-true v t both.0 in
-      omega (arith, both.1))
+    let both = cond_some (ltb v t) v x small in
+    let below = ltb-true v t both.0 in
+    omega (arith, both.1))
 
 -- one entry for each word, each below t
 entries-fit : (t : ℕ) (words : List (List ℕ)) (xs : List ℕ) → entries t words ≡ Some xs → (length xs ≡ length words) × All (λ x. x < t) xs
@@ -29,10 +29,10 @@ entries-fit t [] xs e =
     rw (← none) (refl, All-nil (λ x. x < t))
 entries-fit t (word ∷ rest) xs e =
     option_and_then_some _ (entry t word) xs e (λ first is_first after_first.
-      option_and_then_some _ (entries t rest) xs after_first (λ more is_more whole.
-        let ih = entries-fit t rest more is_more in
-        let all : first ∷ more ≡ xs = same_Some (first ∷ more) xs whole in
-        rw (← all) (omega (arith, ih.0), All-cons (λ x. x < t) first more (entry-below t first word is_first) ih.1)))
+    option_and_then_some _ (entries t rest) xs after_first (λ more is_more whole.
+    let ih = entries-fit t rest more is_more in
+    let all : first ∷ more ≡ xs = same_Some (first ∷ more) xs whole in
+    rw (← all) (omega (arith, ih.0), All-cons (λ x. x < t) first more (entry-below t first word is_first) ih.1)))
 
 -- filled up, the entries stay below t
 IsValue-filled : (n t : ℕ) (xs : List ℕ) → 0 < t → length xs ≤ n → All (λ x. x < t) xs → IsValue n t (filled n xs)
@@ -57,16 +57,16 @@ unfolding value
 value-fits n t words v positive e =
     let both = if_some (leb (length words) n) (option_map (filled n) (entries t words)) v e in
     option_map_some (filled n) (entries t words) v both.1 (λ xs given full.
-      let fits = entries-fit t words xs given in
-      let few = leb-true (length words) n both.0 in
-      subst (IsValue n t) full (IsValue-filled n t xs positive (omega (arith, fits.0)) fits.1))
+    let fits = entries-fit t words xs given in
+    let few = leb-true (length words) n both.0 in
+    subst (IsValue n t) full (IsValue-filled n t xs positive (omega (arith, fits.0)) fits.1))
 
 -- so has the value of an input
 input_line-fits : (line v : List ℕ) → input_line line ≡ Some v → IsValue 8 16 v
 unfolding input_line
 input_line-fits line v e =
     option_and_then_some _ (after (codes "input 1 ") line) v e (λ list given spelled.
-      value-fits 8 16 (parts_at 32 list) v (omega arith) spelled)
+    value-fits 8 16 (parts_at 32 list) v (omega arith) spelled)
 
 -- the value of a result that is there
 result_ok_some : (r : Result (List ℕ) FromHexError) (v : List ℕ) → result_ok r ≡ Some v → r ≡ Ok v
@@ -96,14 +96,14 @@ spelled_inside-fits : (lines : List (List ℕ)) (x : Spelled) → spelled_inside
 unfolding spelled_inside
 spelled_inside-fits lines x e =
     option_and_then_some _ (seed_line (line_at lines 2)) x e (λ master is_master after_master.
-      option_and_then_some _ (input_line (line_at lines 5)) x after_master (λ first is_first after_first.
-        option_and_then_some _ (input_line (line_at lines 6)) x after_first (λ second is_second whole.
-          let all : (record { master = master; first = first; second = second }) ≡ x = same_Some _ x whole in
-          subst Fits all (record {
-            master = seed_line-fits _ master is_master;
-            first = input_line-fits _ first is_first;
-            second = input_line-fits _ second is_second;
-          }))))
+    option_and_then_some _ (input_line (line_at lines 5)) x after_master (λ first is_first after_first.
+    option_and_then_some _ (input_line (line_at lines 6)) x after_first (λ second is_second whole.
+    let all : (record { master = master; first = first; second = second }) ≡ x = same_Some _ x whole in
+    subst Fits all (record {
+      master = seed_line-fits _ master is_master;
+      first = input_line-fits _ first is_first;
+      second = input_line-fits _ second is_second;
+    }))))
 
 -- what the lines of a text spell fits
 pub lines_fit : (lines : List (List ℕ)) (x : Spelled) → spelled_by_lines lines ≡ Some x → Fits x

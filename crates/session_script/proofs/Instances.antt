@@ -1,5 +1,5 @@
 -- Worked instances: what four texts spell, by computation.
-use Rattle.std.proofs.Common.{◌≡◌, ℕ, ◌+◌, List, [], ◌∷◌, ◌++◌, replicate, codes, flat_map, Some, None, refl}
+use Rattle.std.proofs.Common.{◌≡◌, ℕ, List, [], ◌∷◌, ◌++◌, replicate, codes, flat_map, Some, None, refl}
 use Rattle.hex.proofs.OnLiterals.{hex_on_literals}
 use Rattle.session_script.specs.Words.{parts_at, after, number, digits_behind, seed}
 use Rattle.session_script.specs.Form.{entry, entries, value, seed_line, input_line, has_head, has_tail, has_frame, spelled_inside, spelled_by_lines, form}

@@ -1,5 +1,5 @@
 -- The one form of script that is read: the lines of a text, and what they spell.
-use Rattle.std.specs.Prelude.{◌≡◌, ℕ, ◌+◌, ◌-◌, ◌<◌, All, ◌==◌, ◌&&◌, nat_lt, nat_le, Bool, if◌then◌else◌, List, [], ◌∷◌, ◌++◌, length, replicate, slice_index_or, codes, Option, Some, None, option_and_then}
+use Rattle.std.specs.Prelude.{◌≡◌, ℕ, ◌-◌, ◌<◌, All, ◌==◌, ◌&&◌, nat_lt, nat_le, Bool, if◌then◌else◌, List, [], ◌∷◌, ◌++◌, length, replicate, slice_index_or, codes, Option, Some, None, option_and_then}
 use Rattle.std.specs.Option.{option_map}
 use Rattle.std.specs.Str.{bytes_eq}
 use Rattle.session_script.specs.Words.{parts_at, after, number, seed}
@@ -51,7 +51,8 @@ input_line line = do
 abbrev pub line_at : List (List ℕ) → ℕ → List ℕ
 line_at lines k = slice_index_or lines k []
 
--- whether the lines before the inputs stand: the version, the parameters, who is present, the circuit
+-- whether the lines before the inputs stand, but for the seed's: the version, the parameters, who is
+-- present, the circuit
 unfoldable pub has_head : List (List ℕ) → Bool
 has_head lines =
     bytes_eq (line_at lines 0) (codes "helium 1")

@@ -11,7 +11,7 @@ use param_set::{Params, Plain, Plains};
 use std::alloc::Global;
 
 /// Reads a script of the one form that docs/FORMATS.md gives: ten lines, in which one party adds two
-/// inputs of its own. The lines and words are looked at in place.
+/// inputs of its own. Each value has 8 entries below 16.
 ///
 /// `FormStop::Form` comes where the bytes have not this form, and nowhere else.
 pub fn read_form(alloc: Global, bytes: &[u8]) -> Result<Script, FormStop>
@@ -87,6 +87,7 @@ fn has_frame(lines: &[&[u8]]) -> bool
     lines.len() == 11 && has_head(lines) && has_tail(lines)
 }
 
+// Whether the lines before the inputs stand, but for the seed's.
 #[tactic(auto, unfolding(crate::specs::Form::has_head))]
 fn has_head(lines: &[&[u8]]) -> bool
     requires { length lines.now ≡ 11 }
@@ -98,6 +99,7 @@ fn has_head(lines: &[&[u8]]) -> bool
         && stands(lines, 4, "circuit c")
 }
 
+// Whether the lines behind the inputs stand, with nothing behind the last line feed.
 #[tactic(auto, unfolding(crate::specs::Form::has_tail))]
 fn has_tail(lines: &[&[u8]]) -> bool
     requires { length lines.now ≡ 11 }
@@ -109,6 +111,7 @@ fn has_tail(lines: &[&[u8]]) -> bool
         && stands(lines, 10, "")
 }
 
+// The seed of the line `seed DIGITS`.
 #[tactic(auto, unfolding(crate::specs::Form::seed_line))]
 fn seed_line(line: &[u8]) -> Result<[u8; 32], FormStop>
     ensures { Reads (seed_line line.now) result }
@@ -118,6 +121,7 @@ fn seed_line(line: &[u8]) -> Result<[u8; 32], FormStop>
         .ok_or(FormStop::Form)
 }
 
+// The value of the line `input 1 LIST`, by the n and the t of the frame.
 #[tactic(auto, unfolding(crate::specs::Form::input_line))]
 fn input_line(alloc: Global, line: &[u8]) -> Result<Plain, FormStop>
     ensures { Reads (input_line line.now) result }

@@ -18,16 +18,33 @@ fn lines(
 ) -> Result<String, AllocError> {
     let head = "helium 1\nparams 8 31525197391593473 16 3 8 1 1 1 1\n";
     let tail = "add 0 1\nend\ndone";
-    format!(in alloc; "{head}seed {seed}\npresent 1\ncircuit c\ninput 1 {first}\ninput 1 {second}\n{tail}{end}")
+    format!(in alloc;
+        "{head}seed {seed}\npresent 1\ncircuit c\ninput 1 {first}\ninput 1 {second}\n{tail}{end}"
+    )
 }
 
 #[test]
 fn reads_seeds_and_values(rt: HostRuntime) -> Result<(), Fail> {
     let alloc = rt.alloc();
     let cases = [
-        ("3 0 1", "5", [3, 0, 1, 0, 0, 0, 0, 0], [5, 0, 0, 0, 0, 0, 0, 0]),
-        ("15", "1", [15, 0, 0, 0, 0, 0, 0, 0], [1, 0, 0, 0, 0, 0, 0, 0]),
-        ("0", "9 8 7 6 5 4 3 12", [0, 0, 0, 0, 0, 0, 0, 0], [9, 8, 7, 6, 5, 4, 3, 12]),
+        (
+            "3 0 1",
+            "5",
+            [3, 0, 1, 0, 0, 0, 0, 0],
+            [5, 0, 0, 0, 0, 0, 0, 0],
+        ),
+        (
+            "15",
+            "1",
+            [15, 0, 0, 0, 0, 0, 0, 0],
+            [1, 0, 0, 0, 0, 0, 0, 0],
+        ),
+        (
+            "0",
+            "9 8 7 6 5 4 3 12",
+            [0, 0, 0, 0, 0, 0, 0, 0],
+            [9, 8, 7, 6, 5, 4, 3, 12],
+        ),
     ];
     for (first, second, one, two) in cases {
         let text = lines(alloc, SEED, first, second, "\n")?;

@@ -29,7 +29,7 @@ pub(crate) fn after<'a>(text: &str, line: &'a [u8]) -> Option<&'a [u8]>
     line.strip_prefix(text.as_bytes())
 }
 
-// The number that a word spells.
+// The number that a word spells, below 2^64 and without leading zeros.
 #[tactic(auto, unfolding(crate::specs::Words::number, crate::specs::Words::digits_behind))]
 pub(crate) fn number(word: &[u8]) -> Option<u64>
     ensures { result ≡ number word.now }
@@ -48,6 +48,7 @@ pub(crate) fn number(word: &[u8]) -> Option<u64>
     Some(value)
 }
 
+// Whether each byte is a hexadecimal digit, in lower case.
 fn all_lower_hex(word: &[u8]) -> bool
     ensures { result ≡ list_all is_lower_hex word.now }
 {

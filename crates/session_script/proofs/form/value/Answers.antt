@@ -1,5 +1,5 @@
 -- Each word spells one entry more, or none and so no value; at the end the entries are filled up.
-use Rattle.std.proofs.Common.{sym, ◌∙◌, arith, rules}
+use Rattle.std.proofs.Common.{sym, ◌∙◌, arith}
 use Rattle.session_script.proofs.EntriesLemmas.{entries_from-more, entries_from-no_entry, entries_from-end, value_of_entries, value_of_no_entries}
 use Rattle.session_script.proofs.form.value.Goals as goal
 
@@ -20,4 +20,4 @@ pub returns : goal.returns
 returns c =
     let whole = sym c.words.invariant.whole ∙ entries_from-end _ _ _ _ c.words-test.false in
     rw (c.from_vec.ensures, c.in_ok-resize.ensures.items)
-      (value_of_entries _ _ _ _ _ c.if-words-n.false (omega arith) (omega (arith, c.words.invariant.count)) whole)
+    (value_of_entries _ _ _ _ _ c.if-words-n.false (omega arith) (omega (arith, c.words.invariant.count)) whole)
