@@ -1,3 +1,4 @@
 pub mod Trimmed
 pub mod Spaced
 pub mod Hashed
+mod Instances

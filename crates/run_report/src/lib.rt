@@ -13,3 +13,6 @@ mod values;
 
 pub use digests::{cipher_digest, polys_digest};
 pub use lines::{circuit_line, output_line};
+
+#[cfg(test)]
+mod tests;

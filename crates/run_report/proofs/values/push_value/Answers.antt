@@ -1,5 +1,5 @@
 -- What is kept is printed, or `0` where that is nothing.
-use Rattle.std.proofs.Common.{◌≡◌, ◌<◌, length, arith, rules}
+use Rattle.std.proofs.Common.{◌≡◌, ◌<◌, length, rules}
 use Rattle.run_report.proofs.Spaced.{value-zero, value-kept}
 use Rattle.run_report.proofs.values.push_value.Goals as goal
 

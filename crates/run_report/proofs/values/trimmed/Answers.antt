@@ -13,10 +13,12 @@ zeros-preserved c =
     )
 
 pub returns : goal.returns
-returns c = elim c.zeros-test.branch [ then-zeros-test+else-coeffs-end-eq0 w ↦
-    let other : get_or c.args.coeffs.now (c.zeros.end - 1) 0 ≢ 0 = search rules in
-    let some : 0 < c.zeros.end = omega arith in
-    sym (all_kept c.args.coeffs.now c.zeros.end some c.zeros.invariant.0 other) ∙ c.zeros.invariant.1
+returns c = elim c.zeros-test.branch [
+  | then-zeros-test+else-coeffs-end-eq0 w ↦
+      let other : get_or c.args.coeffs.now (c.zeros.end - 1) 0 ≢ 0 = search rules in
+      let some : 0 < c.zeros.end = omega arith in
+      sym (all_kept c.args.coeffs.now c.zeros.end some c.zeros.invariant.0 other) ∙ c.zeros.invariant.1
   | else-zeros-test w ↦
-    let none : c.zeros.end ≡ 0 = omega arith in
-    sym (none_kept c.args.coeffs.now c.zeros.end none) ∙ c.zeros.invariant.1 ]
+      let none : c.zeros.end ≡ 0 = omega arith in
+      sym (none_kept c.args.coeffs.now c.zeros.end none) ∙ c.zeros.invariant.1
+]
