@@ -22,6 +22,7 @@ fn hex_digits(bytes: &[u8; 32]) -> [u8; 64]
     ensures { result ≡ encode_lower bytes.now }
 {
     let mut digits = [0; 64];
+    // It refuses only room of another length.
     let _ = hex::encode_to_slice(bytes, &mut digits);
     digits
 }
