@@ -24,9 +24,10 @@ fn scaled(alloc: Global, ring: &Ring, m: &Plain) -> Result<Poly, AllocError>
 }
 
 /// A copy of a polynomial.
-fn copied(alloc: Global, ring: &Ring, f: &Poly) -> Result<Poly, AllocError>
+pub fn copied(alloc: Global, ring: &Ring, f: &Poly) -> Result<Poly, AllocError>
     requires { IsPoly ring.now.params.q ring.now.params.n f.now }
-    ensures { IfOk result (λ g. g ≡ f.now) }
+    ensures value { IfOk result (λ g. g ≡ f.now) }
+    ensures fits { IfOk result (λ g. IsPoly ring.now.params.q ring.now.params.n g) }
 {
     let coeffs = Vec::from_slice(alloc, f.coeffs())?;
     Ok(of_residues(ring.params(), coeffs))

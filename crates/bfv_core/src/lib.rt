@@ -10,6 +10,6 @@
 mod cipher;
 mod plain;
 
-pub use cipher::{add, encrypt, phase};
+pub use cipher::{add, copied, encrypt, phase};
 pub use mod_ring::{Ciphertext, PublicKey};
 pub use plain::round_phase;

@@ -1,0 +1,25 @@
+ghost use Rattle.std.specs.Prelude.{◌≡◌, ℕ, ◌+◌, ◌^◌, IfOk};
+ghost use Rattle.ring_spec.specs.Ring.{IsPoly};
+ghost use Rattle.draw_spec.specs.Streams.{instance_stream};
+ghost use Rattle.bfv_spec.specs.Shares.{common_poly};
+
+use std::alloc::{AllocError, Global};
+
+use mod_ring::{Poly, Ring};
+use ring_draws::uniform;
+use word_tape::Tape;
+
+/// The stream of an instance.
+pub(crate) fn stream_of(id: u32) -> u64
+    ensures { result ≡ instance_stream id }
+{
+    72_057_594_037_927_936 + u64::from(id)
+}
+
+/// The common polynomial of an instance's first row.
+pub(crate) fn first_common(alloc: Global, ring: &Ring, public: [u8; 32], id: u32) -> Result<Poly, AllocError>
+    ensures value { IfOk result (λ a. a ≡ common_poly ring.now.params.q ring.now.params.n public id 0) }
+    ensures fits { IfOk result (λ a. IsPoly ring.now.params.q ring.now.params.n a) }
+{
+    uniform(alloc, ring, &mut Tape::new(public, stream_of(id)))
+}
