@@ -12,3 +12,6 @@ mod plain;
 
 pub use params::Params;
 pub use plain::{Plain, Plains};
+
+#[cfg(test)]
+mod tests;
