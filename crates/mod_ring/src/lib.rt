@@ -18,3 +18,6 @@ pub use pairs::{Ciphertext, PublicKey};
 pub use poly::{Poly, Polys};
 pub use ring::{Ring, add_into, mul, neg_into, of_residues, of_signed, scale_into, sub_into, zero};
 pub use signs::{centre, residue_of};
+
+#[cfg(test)]
+mod tests;
