@@ -9,3 +9,6 @@
 mod tape;
 
 pub use tape::Tape;
+
+#[cfg(test)]
+mod tests;
