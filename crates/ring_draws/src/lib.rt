@@ -10,3 +10,6 @@ mod fill;
 mod sample;
 
 pub use sample::{small, ternary, uniform, wide};
+
+#[cfg(test)]
+mod tests;
