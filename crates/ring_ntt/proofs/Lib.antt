@@ -1,0 +1,10 @@
+pub mod Congruence
+pub mod Sums
+pub mod Reversal
+pub mod Tree
+pub mod Values
+pub mod Undone
+pub mod Residues
+pub mod Products
+pub mod Laws
+pub mod Shoup

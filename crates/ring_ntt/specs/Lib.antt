@@ -1,0 +1,4 @@
+pub mod Transform
+pub mod Words
+pub mod Nodes
+pub mod Faults

@@ -1,0 +1,163 @@
+ghost use Rattle.std.specs.Prelude.{◌≡◌, ℕ, ◌+◌, ◌-◌, ◌*◌, ◌/◌, ◌%◌, ◌^◌, ◌<◌, ◌≤◌, List, length, get_or, IfOk, IfErr};
+ghost use Rattle.ring_spec.specs.Ring.{IsPoly, ring_product};
+ghost use Rattle.ring_ntt.specs.Transform.{IsLength, transform, entrywise};
+ghost use Rattle.ring_ntt.specs.Words.{quotient_of};
+
+use std::alloc::Global;
+
+use crate::fault::NttFault;
+use crate::twiddles::{Factor, Twiddles};
+use crate::words::{power, product, quotient, reduced, scaled};
+use crate::{backward, forward};
+
+/// What transforms of n coefficients modulo q need, made once: the powers of a root psi with
+/// psi^n = -1, and of its inverse.
+///
+/// A polynomial is a slice of n residues below q, lowest degree first. To multiply two of them take
+/// both `forward`, multiply one into the other, and take it back by `inverse`.
+#[derive(Drop)]
+pub struct Tables {
+    pub modulus: u64,
+    pub length: u64,
+    pub root: u64,
+    pub levels: u32,
+    onward: Twiddles,
+    back: Twiddles,
+    /// the inverse of n
+    scale: Factor,
+    /// 2^64 and 1, for products of two words
+    carry: Factor,
+    unit: Factor,
+    ghost odd: { modulus % 2 ≡ 1 },
+    ghost at_least_three: { 3 ≤ modulus },
+    ghost small: { modulus ≤ 2 ^ 62 },
+    ghost some_level: { 1 ≤ levels },
+    ghost few_levels: { levels ≤ 12 },
+    ghost whole: { length ≡ 2 ^ levels },
+    ghost is_root: { root ^ length % modulus ≡ modulus - 1 },
+    ghost onward_is: { (onward.modulus ≡ modulus) × (onward.levels ≡ levels) × (onward.base ≡ root) },
+    ghost back_is: { (back.modulus ≡ modulus) × (back.levels ≡ levels) × (root * back.base % modulus ≡ 1) },
+    ghost scale_is: { (scale.root * 2 ^ levels % modulus ≡ 1) × (scale.quotient ≡ quotient_of modulus scale.root) },
+    ghost carry_is: { (carry.root ≡ 2 ^ 64 % modulus) × (carry.quotient ≡ quotient_of modulus carry.root) },
+    ghost unit_is: { (unit.root ≡ 1) × (unit.quotient ≡ quotient_of modulus 1) },
+}
+
+impl Tables {
+    ghost use Rattle.ring_ntt.specs.Faults.{IsFaultOf};
+
+    /// Tables for n coefficients modulo q, n from 2 to 4096; q need not be prime.
+    pub fn new(alloc: Global, q: u64, n: u64, psi: u64) -> Result<Tables, NttFault>
+        requires odd { q % 2 ≡ 1 }
+        requires at_least_three { 3 ≤ q }
+        requires small { q ≤ 2 ^ 62 }
+        requires power_of_two { IsLength n }
+        requires residue { psi < q }
+        ensures made { IfOk result (λ t. (t.modulus ≡ q) × (t.length ≡ n) × (t.root ≡ psi)) }
+        ensures fault { IfErr result (IsFaultOf q n psi) }
+    {
+        let value = power(psi, n, q);
+        if value != q - 1 {
+            return Err(NttFault::NoRoot { value });
+        }
+        let levels = n.trailing_zeros();
+        let inverse = q - power(psi, n - 1, q);
+        let half = power(q / 2 + 1, u64::from(levels), q);
+        Ok(Tables {
+            modulus: q,
+            length: n,
+            root: psi,
+            levels,
+            onward: Twiddles::new(alloc, q, levels, psi)?,
+            back: Twiddles::new(alloc, q, levels, inverse)?,
+            scale: factor(half, q),
+            carry: factor(power(2, 64, q), q),
+            unit: factor(1, q),
+        })
+    }
+
+    /// Takes a polynomial to its values at the odd powers of psi, in place.
+    pub fn forward(&self, a: &mut [u64])
+        requires { IsPoly self.now.modulus self.now.length a.old }
+        ensures values { a.new ≡ transform self.now.modulus self.now.root self.now.levels a.old }
+        ensures residues { IsPoly self.now.modulus self.now.length a.new }
+    {
+        if self.levels == 1 {
+            forward::two(&self.onward, a, 1);
+        } else {
+            forward::block(&self.onward, a, 1, self.levels);
+        }
+    }
+
+    /// Takes values back to the polynomial that has them, in place.
+    pub fn inverse(&self, a: &mut [u64])
+        requires { IsPoly self.now.modulus self.now.length a.old }
+        ensures undoes { (f : List ℕ) → IsPoly self.now.modulus self.now.length f →
+            a.old ≡ transform self.now.modulus self.now.root self.now.levels f → a.new ≡ f }
+        ensures undone { transform self.now.modulus self.now.root self.now.levels a.new ≡ a.old }
+        ensures residues { IsPoly self.now.modulus self.now.length a.new }
+    {
+        if self.levels == 1 {
+            backward::two(&self.back, a, 1);
+        } else {
+            backward::block(&self.back, a, 1, self.levels);
+        }
+        scale_down(a, self.scale, self.modulus);
+    }
+
+    /// Multiplies entry by entry. On transforms that is the product of the polynomials.
+    pub fn multiply_into(&self, a: &mut [u64], b: &[u64])
+        requires left { IsPoly self.now.modulus self.now.length a.old }
+        requires right { IsPoly self.now.modulus self.now.length b.now }
+        ensures values { a.new ≡ entrywise self.now.modulus self.now.length a.old b.now }
+        ensures residues { IsPoly self.now.modulus self.now.length a.new }
+        ensures product { (f g : List ℕ) → IsPoly self.now.modulus self.now.length f → IsPoly self.now.modulus self.now.length g →
+            a.old ≡ transform self.now.modulus self.now.root self.now.levels f →
+            b.now ≡ transform self.now.modulus self.now.root self.now.levels g →
+            a.new ≡ transform self.now.modulus self.now.root self.now.levels (ring_product self.now.modulus self.now.length f g) }
+    {
+        'entries: for i in 0..a.len() {
+            a[i] = word_product(a[i], b[i], self.carry, self.unit, self.modulus);
+        }
+    }
+}
+
+fn factor(root: u64, q: u64) -> Factor
+    requires { root < q }
+    ensures root { result.root ≡ root }
+    ensures precomputed { result.quotient ≡ quotient_of q root }
+{
+    Factor {
+        root,
+        quotient: quotient(root, q),
+    }
+}
+
+/// Each entry below 2q times the factor, modulo q.
+fn scale_down(a: &mut [u64], scale: Factor, q: u64)
+    requires positive { 0 < q }
+    requires small { q ≤ 2 ^ 62 }
+    requires precomputed { scale.quotient ≡ quotient_of q scale.root }
+    ensures length { length a.new ≡ length a.old }
+    ensures scaled { (k : ℕ) → k < length a.old → get_or a.new k 0 ≡ scale.root * get_or a.old k 0 % q }
+{
+    for x in a.iter_mut() {
+        *x = crate::words::lowered(scaled(*x, scale.root, scale.quotient, q), q);
+    }
+}
+
+/// x * y modulo q with no division: with x * y = h * 2^64 + l it is h times 2^64, and l.
+#[inline]
+fn word_product(x: u64, y: u64, carry: Factor, unit: Factor, q: u64) -> u64
+    requires positive { 0 < q }
+    requires small { q ≤ 2 ^ 62 }
+    requires carry { (carry.root ≡ 2 ^ 64 % q) × (carry.quotient ≡ quotient_of q carry.root) }
+    requires unit { (unit.root ≡ 1) × (unit.quotient ≡ quotient_of q 1) }
+    ensures { result ≡ x * y % q }
+{
+    let whole = x as u128 * y as u128;
+    let high = (whole >> 64) as u64;
+    let low = (whole & 0xffff_ffff_ffff_ffff) as u64;
+    let sum = scaled(high, carry.root, carry.quotient, q)
+        + scaled(low, unit.root, unit.quotient, q);
+    reduced(sum, q)
+}
