@@ -8,3 +8,8 @@ pub mod Residues
 pub mod Products
 pub mod Laws
 pub mod Shoup
+pub mod Squarings
+pub mod WordLaws
+pub mod Slots
+pub mod Bases
+pub mod Places

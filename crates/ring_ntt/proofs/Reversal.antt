@@ -102,7 +102,7 @@ map_along : (f g h : ℕ → ℕ) → ((r : ℕ) → f r ≡ g (h r)) → (xs : 
 map_along f g h e [] = refl
 map_along f g h e (x ∷ xs) = let a = e x in let b = map_along f g h e xs in cc
 
-square-power : (q psi r : ℕ) → (psi * psi % q) ^ r % q ≡ psi ^ (2 * r) % q
+pub square-power : (q psi r : ℕ) → (psi * psi % q) ^ r % q ≡ psi ^ (2 * r) % q
 square-power q psi r =
     let double : 2 * r ≡ r + r = omega arith in
     pow-mod (psi * psi) r q ∙ ap (λ z. z % q) (mul-pow psi psi r ∙ sym (pow-add psi r r) ∙ ap (λ z. psi ^ z) (sym double))

@@ -72,13 +72,13 @@ right_again q m c u v w b z e one inverse =
 
 -- ---- all levels
 
-half_within : (t d k b : ℕ) → b < 2 → (k + 1) * 2 ^ suc d ≤ 2 * 2 ^ t → (2 * k + b + 1) * 2 ^ d ≤ 2 * 2 ^ t
+pub half_within : (t d k b : ℕ) → b < 2 → (k + 1) * 2 ^ suc d ≤ 2 * 2 ^ t → (2 * k + b + 1) * 2 ^ d ≤ 2 * 2 ^ t
 half_within t d k b s l =
     let kp : (k + 1) * 2 ^ suc d ≡ 2 * (k + 1) * 2 ^ d = ap (λ z. (k + 1) * z) (pow-suc 2 d) ∙ omega arith in
     let m : (2 * k + b + 1) * 2 ^ d ≤ 2 * (k + 1) * 2 ^ d = mul-le-mul_right (2 ^ d) (omega arith) in
     omega (arith, kp, m, l)
 
-low_within : (t d k : ℕ) → (k + 1) * 2 ^ suc d ≤ 2 * 2 ^ t → k < 2 ^ t
+pub low_within : (t d k : ℕ) → (k + 1) * 2 ^ suc d ≤ 2 * 2 ^ t → k < 2 ^ t
 low_within t d k l =
     let kp : (k + 1) * 2 ^ suc d ≡ 2 * ((k + 1) * 2 ^ d) = ap (λ z. (k + 1) * z) (pow-suc 2 d) ∙ omega arith in
     let m : (k + 1) * 1 ≤ (k + 1) * 2 ^ d = mul-le-mul_left (k + 1) (pow_pos d) in

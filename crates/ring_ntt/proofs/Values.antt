@@ -112,7 +112,7 @@ left_power q t d k a s psi r l e h =
     ∙ ap (λ z. z % q) (let g : psi ^ reversed t k * 1 ≡ psi ^ reversed t k = omega arith in g)
     ∙ sym (ap (λ z. z % q) (powers_at q t psi k l (place_below t d k a s h)) ∙ mod-mod (psi ^ reversed t k) q)
 
-negative : (q m z : ℕ) → q ≡ m + 1 → z < q → (z * m) % q ≡ (q - z) % q
+pub negative : (q m z : ℕ) → q ≡ m + 1 → z < q → (z * m) % q ≡ (q - z) % q
 negative q m z e l =
     let a = ap (λ y. z * y) e in
     shift_same q (z * m) (q - z) 1 z (omega (arith, e, a))

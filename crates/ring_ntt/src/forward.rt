@@ -88,7 +88,6 @@ pub(crate) fn block(table: &Twiddles, a: &mut [u64], k: usize, depth: u32)
     requires deep { 2 ≤ depth }
     requires count { length a.old ≡ 2 ^ depth }
     requires place { (k + 1) * 2 ^ depth ≤ 2 * 2 ^ table.now.levels }
-    requires levels { table.now.levels ≤ 12 }
     requires within { (i : ℕ) → i < 2 ^ depth → get_or a.old i 0 < 4 * table.now.modulus }
     ensures { a.new ≡ node table.now.modulus (powers table.now.modulus table.now.levels table.now.base) depth k (entry a.old) }
 {

@@ -156,7 +156,7 @@ fn word_product(x: u64, y: u64, carry: Factor, unit: Factor, q: u64) -> u64
 {
     let whole = x as u128 * y as u128;
     let high = (whole >> 64) as u64;
-    let low = (whole & 0xffff_ffff_ffff_ffff) as u64;
+    let low = (whole % 18446744073709551616) as u64;
     let sum = scaled(high, carry.root, carry.quotient, q)
         + scaled(low, unit.root, unit.quotient, q);
     reduced(sum, q)

@@ -16,6 +16,7 @@ pub(crate) struct Twiddles {
     pub(crate) quotients: Vec<u64>,
     ghost above_one: { 1 < modulus },
     ghost small: { modulus ≤ 2 ^ 62 },
+    ghost few_levels: { levels ≤ 12 },
     ghost in_order: { roots.items ≡ powers modulus levels base },
     ghost precomputed: { quotients.items ≡ map (quotient_of modulus) (powers modulus levels base) },
 }
@@ -84,7 +85,8 @@ fn push_powers(
         return Ok(());
     }
     push_powers(roots, modulus, levels - 1, product(base, base, modulus))?;
-    push_multiples(roots, modulus, base)
+    push_multiples(roots, modulus, base)?;
+    Ok(())
 }
 
 /// Appends each root once more, times `base`.
