@@ -4,7 +4,7 @@ use Rattle.std.proofs.Math.Nat.{mod-mod, mod-eq_of_lt, pow-zero}
 use Rattle.std.proofs.lemmas.Nat.{pow-add, mul-mod, mod_below, mul-pow}
 use Rattle.std.proofs.lemmas.List.{length-map, get_or-map}
 use Rattle.std.proofs.lemmas.List.Elements.{All-from_get_or, All-get_or}
-use Rattle.std.proofs.lemmas.List.FromFn.{get_or-map-range_with_len, length-map-range_with_len}
+use Rattle.std.proofs.lemmas.List.FromFn.{fill_by_all, get_or-map-range_with_len, length-map-range_with_len}
 use Rattle.std.proofs.lemmas.Grind.{same_number_lists}
 use Rattle.std.specs.List.{range_with_len, All}
 use Rattle.ring_spec.specs.Ring.{IsPoly, ring_product, residues, residue, wrapped, coefficient}
@@ -153,3 +153,50 @@ back-undone q t psi phi scale y x r b p =
           ∙ mul_same q (scale * 2 ^ t) 1 (entry y i) (entry y i) (r.scaled ∙ sym one) refl
           ∙ ap (λ z. z % q) (let g : 1 * entry y i ≡ entry y i = omega arith in g)
           ∙ mod-eq_of_lt hy)
+
+-- ---- as the calls of the tables cite them
+
+pub entrywise-poly : (q n : ℕ) (a b : List ℕ) → 0 < q → IsPoly q n (entrywise q n a b)
+unfolding entrywise
+entrywise-poly q n a b l = record {
+    entries = length-map-range_with_len (product_at q a b) 0 n;
+    below = All-from_get_or (λ x. x < q) (map (product_at q a b) (range_with_len 0 n)) 0
+      (λ i h. let m = length-map-range_with_len (product_at q a b) 0 n in
+        rw (get_or-map-range_with_len (product_at q a b) 0 n i i 0 (omega (arith, m)) (omega arith)) (mod_below (entry a i * entry b i) q l))
+  }
+
+pub entrywise-is : (q n : ℕ) (a b x : List ℕ) → length x ≡ n → ((k : ℕ) → k < n → get_or x k 0 ≡ get_or a k 0 * get_or b k 0 % q) → x ≡ entrywise q n a b
+unfolding entrywise
+entrywise-is q n a b x l h = fill_by_all (product_at q a b) x n 0 l h
+
+-- the tree over a table gives the transform by the root that the table is made of
+pub forward-values : (q psi t q' t' psi' : ℕ) (f a : List ℕ) → q' ≡ q → t' ≡ t → psi' ≡ psi → 1 < q → psi ^ (2 ^ t) % q ≡ q - 1 → 0 < t →
+  a ≡ node q' (powers q' t' psi') t' 1 (entry f) → a ≡ transform q psi t f
+forward-values q psi t q' t' psi' f a eq et ep l root some e =
+    e
+    ∙ ap (λ z. node z (powers z t' psi') t' 1 (entry f)) eq
+    ∙ ap (λ z. node q (powers q z psi') z 1 (entry f)) et
+    ∙ ap (λ z. node q (powers q t z) t 1 (entry f)) ep
+    ∙ node-transform q t psi f l root some
+
+-- what the way back by another table leaves, scaled down
+pub is_back : (q t psi phi scale q' t' : ℕ) (y u x : List ℕ) → 0 < q → q' ≡ q → t' ≡ t → length u ≡ 2 ^ t' → length x ≡ length u →
+  ((i : ℕ) → i < 2 ^ t' → get_or u i 0 % q' ≡ undone q' (powers q' t' phi) t' 1 y i % q') →
+  ((k : ℕ) → k < length u → get_or x k 0 ≡ scale * get_or u k 0 % q) →
+  IsBack q t psi phi scale y x
+is_back q t psi phi scale q' t' y u x some eq et nu nx same scaled =
+    let width : 2 ^ t' ≡ 2 ^ t = ap (λ z. 2 ^ z) et in
+    record {
+      poly = record {
+        entries = nx ∙ nu ∙ width;
+        below = All-from_get_or (λ v. v < q) x 0 (λ i h. rw (scaled i (omega (arith, nx))) (mod_below (scale * get_or u i 0) q some))
+      };
+      entries = λ i h.
+        ap (λ z. z % q) (scaled i (omega (arith, nu, width)))
+        ∙ mod-mod (scale * get_or u i 0) q
+        ∙ mul_same q scale scale (get_or u i 0) (undone q (powers q t phi) t 1 y i) refl
+            ( ap (λ z. get_or u i 0 % z) (sym eq)
+            ∙ same i (omega (arith, width))
+            ∙ ap (λ z. undone z (powers z t' phi) t' 1 y i % z) eq
+            ∙ ap (λ z. undone q (powers q z phi) z 1 y i % q) et)
+    }

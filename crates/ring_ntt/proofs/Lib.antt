@@ -13,3 +13,4 @@ pub mod WordLaws
 pub mod Slots
 pub mod Bases
 pub mod Places
+pub mod Inverses

@@ -1,7 +1,7 @@
 -- The numbers in bit-reversed order, and the powers that stand in that order.
 use Rattle.std.proofs.Common.{◌≡◌, ℕ, zero, suc, ◌+◌, ◌-◌, ◌*◌, ◌%◌, ◌^◌, ◌<◌, ◌≤◌, List, [], ◌∷◌, ◌++◌, map, length, get_or, inl, inr, refl, sym, ◌∙◌, ap, arith, length-append, add-one}
 use Rattle.std.proofs.Math.Nat.{pow-zero, pow-suc, mod-eq_of_lt}
-use Rattle.std.proofs.lemmas.Nat.{pow_pos, mul-mod_first, pow-mod, mul-pow, pow-add}
+use Rattle.std.proofs.lemmas.Nat.{pow_pos, mod_below, mul-mod_first, pow-mod, mul-pow, pow-add}
 use Rattle.std.proofs.lemmas.List.{length-map, get_or-map, get_or_append_left, get_or-append_right, map-append}
 use Rattle.std.proofs.lemmas.Bool.{cases_lt}
 use Rattle.std.proofs.lemmas.Simd.{map-map}
@@ -136,3 +136,25 @@ unfolding reversed
 powers_at q d psi k l below =
     let n = length-bit_reversed d in
     ap (λ z. get_or z k 0) (powers-in_order q d psi l) ∙ get_or-map (power_of q psi) (bit_reversed d) k 0 0 (omega (arith, n))
+
+empty_table : (q psi : ℕ) → powers q zero psi ≡ 1 ∷ []
+unfolding powers
+empty_table q psi = refl
+
+next_table : (q d psi : ℕ) → powers q (suc d) psi ≡ powers q d (psi * psi % q) ++ map (multiple q psi) (powers q d (psi * psi % q))
+unfolding powers
+next_table q d psi = refl
+
+-- one step of the table
+pub powers_none : (q d psi : ℕ) → d ≡ 0 → powers q d psi ≡ 1 ∷ []
+powers_none q d psi e = ap (λ z. powers q z psi) e ∙ empty_table q psi
+
+pub powers_more : (q d psi : ℕ) → 0 < d → powers q d psi ≡ powers q (d - 1) (psi * psi % q) ++ map (multiple q psi) (powers q (d - 1) (psi * psi % q))
+powers_more q d psi l =
+    let e : d ≡ suc (d - 1) = omega arith in
+    ap (λ z. powers q z psi) e ∙ next_table q (d - 1) psi
+
+pub powers_below : (q d psi k : ℕ) → 1 < q → k < length (powers q d psi) → get_or (powers q d psi) k 0 < q
+powers_below q d psi k l h =
+    let n = length-powers q d psi l in
+    rw (powers_at q d psi k l (omega (arith, n))) (mod_below (psi ^ reversed d k) q (omega arith))

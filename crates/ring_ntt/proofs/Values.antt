@@ -21,7 +21,7 @@ pub one-pow : (b : ℕ) → 1 ^ b ≡ 1
 one-pow zero = pow-zero 1
 one-pow (suc b) = pow-suc 1 b ∙ (let e = one-pow b in omega (arith, e))
 
-minus_squared : (q m : ℕ) → q ≡ m + 1 → (m * m) % q ≡ 1 % q
+pub minus_squared : (q m : ℕ) → q ≡ m + 1 → (m * m) % q ≡ 1 % q
 minus_squared q m e =
     let square = ap (λ z. z * z) e in
     shift_same q (m * m) 1 2 q (omega (arith, e, square))

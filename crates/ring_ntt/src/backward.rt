@@ -50,7 +50,7 @@ fn reunions(low: &mut [u64], high: &mut [u64], w: Factor, q: u64)
 }
 
 /// Twice the remainder of two values.
-pub(crate) fn two(table: &Twiddles, a: &mut [u64], k: usize)
+fn two(table: &Twiddles, a: &mut [u64], k: usize)
     requires count { length a.old ≡ 2 }
     requires place { k < 2 ^ table.now.levels }
     requires within { (i : ℕ) → i < 2 → get_or a.old i 0 < 2 * table.now.modulus }
@@ -86,7 +86,7 @@ fn four(table: &Twiddles, a: &mut [u64], k: usize)
 }
 
 /// 2^depth times the remainder at node k, from its 2^depth values, each below 2q.
-pub(crate) fn block(table: &Twiddles, a: &mut [u64], k: usize, depth: u32)
+fn block(table: &Twiddles, a: &mut [u64], k: usize, depth: u32)
     requires deep { 2 ≤ depth }
     requires count { length a.old ≡ 2 ^ depth }
     requires place { (k + 1) * 2 ^ depth ≤ 2 * 2 ^ table.now.levels }
@@ -103,4 +103,20 @@ pub(crate) fn block(table: &Twiddles, a: &mut [u64], k: usize, depth: u32)
     block(table, low, 2 * k, depth - 1);
     block(table, high, 2 * k + 1, depth - 1);
     reunions(low, high, table.factor(k), table.modulus);
+}
+
+/// 2^levels times the polynomial that has 2^levels values, each below 2q, in place.
+pub(crate) fn whole(table: &Twiddles, a: &mut [u64])
+    requires some_level { 1 ≤ table.now.levels }
+    requires count { length a.old ≡ 2 ^ table.now.levels }
+    requires within { (i : ℕ) → i < 2 ^ table.now.levels → get_or a.old i 0 < 2 * table.now.modulus }
+    ensures length { length a.new ≡ 2 ^ table.now.levels }
+    ensures below { (i : ℕ) → i < 2 ^ table.now.levels → get_or a.new i 0 < 2 * table.now.modulus }
+    ensures same { (i : ℕ) → i < 2 ^ table.now.levels → get_or a.new i 0 % table.now.modulus ≡ undone table.now.modulus (powers table.now.modulus table.now.levels table.now.base) table.now.levels 1 a.old i % table.now.modulus }
+{
+    if table.levels == 1 {
+        two(table, a, 1);
+    } else {
+        block(table, a, 1, table.levels);
+    }
 }

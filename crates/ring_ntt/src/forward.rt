@@ -51,7 +51,7 @@ fn butterflies(low: &mut [u64], high: &mut [u64], w: Factor, q: u64)
 }
 
 /// The last level alone, for two coefficients.
-pub(crate) fn two(table: &Twiddles, a: &mut [u64], k: usize)
+fn two(table: &Twiddles, a: &mut [u64], k: usize)
     requires count { length a.old ≡ 2 }
     requires place { k < 2 ^ table.now.levels }
     requires within { (i : ℕ) → i < 2 → get_or a.old i 0 < 4 * table.now.modulus }
@@ -84,7 +84,7 @@ fn four(table: &Twiddles, a: &mut [u64], k: usize)
 }
 
 /// The values below node k of a remainder with 2^depth coefficients, each below 4q.
-pub(crate) fn block(table: &Twiddles, a: &mut [u64], k: usize, depth: u32)
+fn block(table: &Twiddles, a: &mut [u64], k: usize, depth: u32)
     requires deep { 2 ≤ depth }
     requires count { length a.old ≡ 2 ^ depth }
     requires place { (k + 1) * 2 ^ depth ≤ 2 * 2 ^ table.now.levels }
@@ -99,4 +99,18 @@ pub(crate) fn block(table: &Twiddles, a: &mut [u64], k: usize, depth: u32)
     butterflies(low, high, table.factor(k), table.modulus);
     block(table, low, 2 * k, depth - 1);
     block(table, high, 2 * k + 1, depth - 1);
+}
+
+/// The values of a polynomial with 2^levels coefficients, each below 4q, in place.
+pub(crate) fn whole(table: &Twiddles, a: &mut [u64])
+    requires some_level { 1 ≤ table.now.levels }
+    requires count { length a.old ≡ 2 ^ table.now.levels }
+    requires within { (i : ℕ) → i < 2 ^ table.now.levels → get_or a.old i 0 < 4 * table.now.modulus }
+    ensures { a.new ≡ node table.now.modulus (powers table.now.modulus table.now.levels table.now.base) table.now.levels 1 (entry a.old) }
+{
+    if table.levels == 1 {
+        two(table, a, 1);
+    } else {
+        block(table, a, 1, table.levels);
+    }
 }

@@ -59,9 +59,9 @@ impl Tables {
         if value != q - 1 {
             return Err(NttFault::NoRoot { value });
         }
-        let levels = n.trailing_zeros();
-        let inverse = q - power(psi, n - 1, q);
-        let half = power(q / 2 + 1, u64::from(levels), q);
+        let levels = levels_of(n);
+        let inverse = inverse_of(psi, n, q);
+        let half = inverse_of_length(levels, q);
         Ok(Tables {
             modulus: q,
             length: n,
@@ -81,11 +81,7 @@ impl Tables {
         ensures values { a.new ≡ transform self.now.modulus self.now.root self.now.levels a.old }
         ensures residues { IsPoly self.now.modulus self.now.length a.new }
     {
-        if self.levels == 1 {
-            forward::two(&self.onward, a, 1);
-        } else {
-            forward::block(&self.onward, a, 1, self.levels);
-        }
+        forward::whole(&self.onward, a);
     }
 
     /// Takes values back to the polynomial that has them, in place.
@@ -96,11 +92,7 @@ impl Tables {
         ensures undone { transform self.now.modulus self.now.root self.now.levels a.new ≡ a.old }
         ensures residues { IsPoly self.now.modulus self.now.length a.new }
     {
-        if self.levels == 1 {
-            backward::two(&self.back, a, 1);
-        } else {
-            backward::block(&self.back, a, 1, self.levels);
-        }
+        backward::whole(&self.back, a);
         scale_down(a, self.scale, self.modulus);
     }
 
@@ -113,12 +105,44 @@ impl Tables {
         ensures product { (f g : List ℕ) → IsPoly self.now.modulus self.now.length f → IsPoly self.now.modulus self.now.length g →
             a.old ≡ transform self.now.modulus self.now.root self.now.levels f →
             b.now ≡ transform self.now.modulus self.now.root self.now.levels g →
-            a.new ≡ transform self.now.modulus self.now.root self.now.levels (ring_product self.now.modulus self.now.length f g) }
+            IsPoly self.now.modulus self.now.length (ring_product self.now.modulus self.now.length f g)
+            × (a.new ≡ transform self.now.modulus self.now.root self.now.levels (ring_product self.now.modulus self.now.length f g)) }
     {
         'entries: for i in 0..a.len() {
             a[i] = word_product(a[i], b[i], self.carry, self.unit, self.modulus);
         }
     }
+}
+
+fn levels_of(n: u64) -> u32
+    requires { IsLength n }
+    ensures whole { n ≡ 2 ^ result }
+    ensures some { 1 ≤ result }
+    ensures few { result ≤ 12 }
+{
+    n.trailing_zeros()
+}
+
+/// The inverse of a root with root^n = -1: it is -root^(n-1).
+fn inverse_of(root: u64, n: u64, q: u64) -> u64
+    requires above_one { 1 < q }
+    requires some { 0 < n }
+    requires is_root { root ^ n % q ≡ q - 1 }
+    ensures residue { result < q }
+    ensures inverse { root * result % q ≡ 1 }
+{
+    q - power(root, n - 1, q)
+}
+
+/// The inverse of 2^levels modulo an odd q: that of 2 is (q+1)/2.
+fn inverse_of_length(levels: u32, q: u64) -> u64
+    requires odd { q % 2 ≡ 1 }
+    requires above_one { 1 < q }
+    requires small { q ≤ 2 ^ 62 }
+    ensures residue { result < q }
+    ensures inverse { result * 2 ^ levels % q ≡ 1 }
+{
+    power(q / 2 + 1, u64::from(levels), q)
 }
 
 fn factor(root: u64, q: u64) -> Factor

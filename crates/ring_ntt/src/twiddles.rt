@@ -69,6 +69,7 @@ impl Twiddles {
 }
 
 /// Fills an empty list with the powers of `base`: those of its square, then the same times `base`.
+#[tactic(auto, using(crate::proofs::Reversal::powers_none, crate::proofs::Reversal::powers_more))]
 fn push_powers(
     roots: &mut Vec<u64>,
     modulus: u64,
