@@ -14,3 +14,4 @@ pub mod Slots
 pub mod Bases
 pub mod Places
 pub mod Inverses
+pub mod PowersOfTwo

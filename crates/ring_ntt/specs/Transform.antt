@@ -1,10 +1,6 @@
 -- The transform of a polynomial: its values at the odd powers of a root psi with psi^n = -1 modulo q.
-use Rattle.std.specs.Prelude.{◌≡◌, ℕ, zero, suc, ◌+◌, ◌*◌, ◌%◌, ◌^◌, ◌≤◌, List, [], ◌∷◌, ◌++◌, map, get_or}
+use Rattle.std.specs.Prelude.{ℕ, zero, suc, ◌+◌, ◌*◌, ◌%◌, ◌^◌, List, [], ◌∷◌, ◌++◌, map, get_or}
 use Rattle.std.specs.List.{range_with_len}
-
--- a length that has a transform: a power of two from 2 to 4096
-abbrev pub IsLength : ℕ → Type 0
-IsLength n = (d : ℕ) × (1 ≤ d) × (d ≤ 12) × (n ≡ 2 ^ d)
 
 -- the sum f 0 + f 1 + .. + f (n - 1)
 unfoldable pub sum_of : ℕ → (ℕ → ℕ) → ℕ

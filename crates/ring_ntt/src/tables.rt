@@ -1,6 +1,7 @@
-ghost use Rattle.std.specs.Prelude.{◌≡◌, ℕ, ◌+◌, ◌-◌, ◌*◌, ◌/◌, ◌%◌, ◌^◌, ◌<◌, ◌≤◌, List, length, get_or, IfOk, IfErr};
+ghost use Rattle.std.specs.Prelude.{◌≡◌, ℕ, ◌+◌, ◌-◌, ◌*◌, ◌/◌, ◌%◌, ◌^◌, ◌<◌, ◌≤◌, List, length, get_or, IfOk, IfErr, IsTrue};
+ghost use Rattle.std.specs.Int.{is_power_of_two};
 ghost use Rattle.ring_spec.specs.Ring.{IsPoly, ring_product};
-ghost use Rattle.ring_ntt.specs.Transform.{IsLength, transform, entrywise};
+ghost use Rattle.ring_ntt.specs.Transform.{transform, entrywise};
 ghost use Rattle.ring_ntt.specs.Words.{quotient_of};
 
 use std::alloc::Global;
@@ -50,7 +51,7 @@ impl Tables {
         requires odd { q % 2 ≡ 1 }
         requires at_least_three { 3 ≤ q }
         requires small { q ≤ 2 ^ 62 }
-        requires power_of_two { IsLength n }
+        requires length { (2 ≤ n) × (n ≤ 4096) × IsTrue (is_power_of_two n) }
         requires residue { psi < q }
         ensures made { IfOk result (λ t. (t.modulus ≡ q) × (t.length ≡ n) × (t.root ≡ psi)) }
         ensures fault { IfErr result (IsFaultOf q n psi) }
@@ -115,7 +116,7 @@ impl Tables {
 }
 
 fn levels_of(n: u64) -> u32
-    requires { IsLength n }
+    requires { (2 ≤ n) × (n ≤ 4096) × IsTrue (is_power_of_two n) }
     ensures whole { n ≡ 2 ^ result }
     ensures some { 1 ≤ result }
     ensures few { result ≤ 12 }
