@@ -1,4 +1,4 @@
-ghost use Rattle.std.specs.Prelude.{◌≡◌, ◌-◌, ◌%◌, ◌^◌, ◌≤◌, ◌<◌, ◌×◌, IsTrue};
+ghost use Rattle.std.specs.Prelude.{◌≡◌, ◌-◌, ◌%◌, ◌^◌, ◌≤◌, ◌<◌, IsTrue};
 ghost use Rattle.std.specs.Int.{is_power_of_two};
 ghost use Rattle.ring_spec.specs.Ring.{IsPoly};
 
@@ -23,7 +23,7 @@ pub fn measure<R: Print + Clock + AllocGlobal>(rt: &R, q: u64, n: u64, psi: u64)
     let mut a = vec![in rt.alloc(); 1; n as usize]?;
     let mut onward = Vec::new(rt.alloc());
     let mut back = Vec::new(rt.alloc());
-    for _ in 0..ROUNDS {
+    'rounds: for _ in 0..ROUNDS {
         let start = Instant::now(rt)?;
         forward_often(&tables, a.as_mut_slice());
         onward.push(start.elapsed(rt)?.as_nanos())?;
@@ -44,7 +44,7 @@ fn forward_often(tables: &Tables, a: &mut [u64])
     requires { IsPoly tables.now.modulus tables.now.length a.old }
     ensures { IsPoly tables.now.modulus tables.now.length a.new }
 {
-    for _ in 0..16u32 {
+    'repeats: for _ in 0..16u32 {
         tables.forward(a);
     }
 }
@@ -53,7 +53,7 @@ fn inverse_often(tables: &Tables, a: &mut [u64])
     requires { IsPoly tables.now.modulus tables.now.length a.old }
     ensures { IsPoly tables.now.modulus tables.now.length a.new }
 {
-    for _ in 0..16u32 {
+    'repeats: for _ in 0..16u32 {
         tables.inverse(a);
     }
 }
