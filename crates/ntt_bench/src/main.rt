@@ -8,14 +8,17 @@
 
 mod timing;
 
-use std::env;
-use std::io;
-
+use std::{env, io};
 use timing::measure;
 
 fn main(rt: HostRuntime) -> io::Result<()> {
-    if !env::args(&rt)?.skip(1).any(|word| word.as_str() == "measure") {
-        return println!(rt; "times a transform of 1024 and 4096 coefficients: give the word measure");
+    if !env::args(&rt)?
+        .skip(1)
+        .any(|word| word.as_str() == "measure")
+    {
+        return println!(rt;
+            "times a transform of 1024 and 4096 coefficients: give the word measure"
+        );
     }
     measure(&rt, 31525197391593473, 1024, 1742471823828513)?;
     measure(&rt, 31525197391593473, 4096, 10685641567815319)?;

@@ -2,10 +2,9 @@ ghost use Rattle.std.specs.Prelude.{◌≡◌, ◌-◌, ◌%◌, ◌^◌, ◌≤
 ghost use Rattle.std.specs.Int.{is_power_of_two};
 ghost use Rattle.ring_spec.specs.Ring.{IsPoly};
 
+use ring_ntt::Tables;
 use std::io;
 use std::time::{Clock, Instant};
-
-use ring_ntt::Tables;
 
 const ROUNDS: usize = 101;
 

@@ -1,5 +1,5 @@
 -- The last levels of the tree, written out for two and for four entries, and one level over two halves.
-use Rattle.std.proofs.Common.{◌≡◌, ℕ, zero, suc, ◌+◌, ◌-◌, ◌*◌, ◌%◌, ◌^◌, ◌<◌, ◌≤◌, List, [], ◌∷◌, ◌++◌, length, get_or, take, drop, inl, inr, refl, sym, ◌∙◌, ap, subst, arith}
+use Rattle.std.proofs.Common.{◌≡◌, ℕ, zero, suc, ◌+◌, ◌-◌, ◌*◌, ◌%◌, ◌^◌, ◌<◌, List, [], ◌∷◌, ◌++◌, length, get_or, take, drop, inl, inr, refl, sym, ◌∙◌, ap, arith}
 use Rattle.std.proofs.Math.Nat.{pow-suc}
 use Rattle.std.proofs.lemmas.List.{get_or_append_left, get_or-append_right, get_or-take, get_or-drop}
 use Rattle.std.proofs.lemmas.Bool.{cases_lt}
@@ -18,12 +18,12 @@ pub back_same : (q w x y u v : ℕ) → x % q ≡ u % q → y % q ≡ v % q → 
 back_same q w x y u v e h = mul_same q w w (x + (q - 1) * y) (u + (q - 1) * v) refl (step_same q (q - 1) x y u v e h)
 
 pub node_two : (q : ℕ) (zs : List ℕ) (k : ℕ) (f : ℕ → ℕ) →
-  node q zs 1 k f ≡ (f 0 + get_or zs k 0 * f 1) % q ∷ (f 0 + (q - get_or zs k 0) * f 1) % q ∷ []
+    node q zs 1 k f ≡ (f 0 + get_or zs k 0 * f 1) % q ∷ (f 0 + (q - get_or zs k 0) * f 1) % q ∷ []
 unfolding node
 node_two q zs k f = refl
 
 pub node_four : (q : ℕ) (zs : List ℕ) (k : ℕ) (f : ℕ → ℕ) →
-  node q zs 2 k f
+    node q zs 2 k f
     ≡ (f 0 + get_or zs k 0 * f 2 + get_or zs (2 * k) 0 * (f 1 + get_or zs k 0 * f 3)) % q
     ∷ (f 0 + get_or zs k 0 * f 2 + (q - get_or zs (2 * k) 0) * (f 1 + get_or zs k 0 * f 3)) % q
     ∷ (f 0 + (q - get_or zs k 0) * f 2 + get_or zs (2 * k + 1) 0 * (f 1 + (q - get_or zs k 0) * f 3)) % q
@@ -33,7 +33,7 @@ unfolding node
 node_four q zs k f = refl
 
 pub undone_two : (q : ℕ) (zs : List ℕ) (k a b i : ℕ) → i < 2 →
-  undone q zs 1 k (a ∷ b ∷ []) i ≡ get_or ((a + b) ∷ (get_or zs k 0 * (a + (q - 1) * b)) ∷ []) i 0
+    undone q zs 1 k (a ∷ b ∷ []) i ≡ get_or ((a + b) ∷ (get_or zs k 0 * (a + (q - 1) * b)) ∷ []) i 0
 unfolding undone
 undone_two q zs k a b zero l = refl
 undone_two q zs k a b (suc zero) l = refl
@@ -41,13 +41,13 @@ undone_two q zs k a b (suc (suc i)) l = absurd (omega arith)
 
 -- four entries taken back: two pairs first
 pub undone_four : (q : ℕ) (zs : List ℕ) (k a b c d i : ℕ) → i < 4 →
-  undone q zs 2 k (a ∷ b ∷ c ∷ d ∷ []) i
+    undone q zs 2 k (a ∷ b ∷ c ∷ d ∷ []) i
     ≡ get_or
-      ( (a + b + (c + d))
-      ∷ (get_or zs (2 * k) 0 * (a + (q - 1) * b) + get_or zs (2 * k + 1) 0 * (c + (q - 1) * d))
-      ∷ (get_or zs k 0 * (a + b + (q - 1) * (c + d)))
-      ∷ (get_or zs k 0 * (get_or zs (2 * k) 0 * (a + (q - 1) * b) + (q - 1) * (get_or zs (2 * k + 1) 0 * (c + (q - 1) * d))))
-      ∷ []) i 0
+    ((a + b + (c + d))
+    ∷ (get_or zs (2 * k) 0 * (a + (q - 1) * b) + get_or zs (2 * k + 1) 0 * (c + (q - 1) * d))
+    ∷ (get_or zs k 0 * (a + b + (q - 1) * (c + d)))
+    ∷ (get_or zs k 0 * (get_or zs (2 * k) 0 * (a + (q - 1) * b) + (q - 1) * (get_or zs (2 * k + 1) 0 * (c + (q - 1) * d))))
+    ∷ []) i 0
 unfolding undone
 undone_four q zs k a b c d zero l = refl
 undone_four q zs k a b c d (suc zero) l = refl
@@ -65,7 +65,7 @@ halves w m i a l =
     ap (λ z. z + w * get_or (drop m a) i 0) (get_or-take m a i 0 l) ∙ ap (λ z. get_or a i 0 + w * z) (get_or-drop m a i 0)
 
 pub node_halves : (q : ℕ) (zs : List ℕ) (d k : ℕ) (a low high : List ℕ) → IsFolded q (get_or zs k 0) (2 ^ d) a low high →
-  node q zs d (2 * k) (entry low) ++ node q zs d (2 * k + 1) (entry high) ≡ node q zs (suc d) k (entry a)
+    node q zs d (2 * k) (entry low) ++ node q zs d (2 * k + 1) (entry high) ≡ node q zs (suc d) k (entry a)
 unfolding node
 node_halves q zs d k a low high h =
     let w : ℕ = get_or zs k 0 in
@@ -82,8 +82,8 @@ pub record IsJoined (q z m : ℕ) (u v : ℕ → ℕ) (low high left right : Lis
   pub differences : (i : ℕ) → i < m → get_or right i 0 % q ≡ (z * (get_or low i 0 + (q - 1) * get_or high i 0)) % q
 
 pub undone_halves : (q : ℕ) (zs : List ℕ) (d k : ℕ) (a low high left right : List ℕ) →
-  IsJoined q (get_or zs k 0) (2 ^ d) (undone q zs d (2 * k) (take (2 ^ d) a)) (undone q zs d (2 * k + 1) (drop (2 ^ d) a)) low high left right →
-  length left ≡ 2 ^ d → (i : ℕ) → i < 2 ^ suc d → get_or (left ++ right) i 0 % q ≡ undone q zs (suc d) k a i % q
+    IsJoined q (get_or zs k 0) (2 ^ d) (undone q zs d (2 * k) (take (2 ^ d) a)) (undone q zs d (2 * k + 1) (drop (2 ^ d) a)) low high left right →
+    length left ≡ 2 ^ d → (i : ℕ) → i < 2 ^ suc d → get_or (left ++ right) i 0 % q ≡ undone q zs (suc d) k a i % q
 unfolding undone
 undone_halves q zs d k a low high left right h n i l =
     let m : ℕ = 2 ^ d in
@@ -92,18 +92,18 @@ undone_halves q zs d k a low high left right h n i l =
     let u : ℕ → ℕ = undone q zs d (2 * k) (take m a) in
     let v : ℕ → ℕ = undone q zs d (2 * k + 1) (drop m a) in
     elim (cases_lt i m) as (λ _. get_or (left ++ right) i 0 % q ≡ joined q m z u v i % q) [
-      inl low_place ↦
-        ap (λ y. y % q) (get_or_append_left left right 0 i (omega (arith, n)))
-        ∙ h.sums i low_place
-        ∙ add_same q (get_or low i 0) (u i) (get_or high i 0) (v i) (h.low_is i low_place) (h.high_is i low_place)
-        ∙ sym (ap (λ y. y % q) (joined_low q m z i u v low_place))
-    | inr high_place ↦
-        let j : ℕ = i - m in
-        let below : j < m = omega (arith, double) in
-        let place : m + j ≡ i = omega arith in
-        ap (λ y. y % q) (get_or-append_right left right m i 0 n high_place)
-        ∙ h.differences j below
-        ∙ back_same q z (get_or low j 0) (get_or high j 0) (u j) (v j) (h.low_is j below) (h.high_is j below)
-        ∙ sym (ap (λ y. y % q) (joined_high q m z j u v))
-        ∙ ap (λ y. joined q m z u v y % q) place
+      | inl low_place ↦
+          ap (λ y. y % q) (get_or_append_left left right 0 i (omega (arith, n)))
+          ∙ h.sums i low_place
+          ∙ add_same q (get_or low i 0) (u i) (get_or high i 0) (v i) (h.low_is i low_place) (h.high_is i low_place)
+          ∙ sym (ap (λ y. y % q) (joined_low q m z i u v low_place))
+      | inr high_place ↦
+          let j : ℕ = i - m in
+          let below : j < m = omega (arith, double) in
+          let place : m + j ≡ i = omega arith in
+          ap (λ y. y % q) (get_or-append_right left right m i 0 n high_place)
+          ∙ h.differences j below
+          ∙ back_same q z (get_or low j 0) (get_or high j 0) (u j) (v j) (h.low_is j below) (h.high_is j below)
+          ∙ sym (ap (λ y. y % q) (joined_high q m z j u v))
+          ∙ ap (λ y. joined q m z u v y % q) place
     ]

@@ -14,7 +14,7 @@ next_is_minus_one q n root l some e =
     let small : (q - 1) % q ≡ q - 1 = mod-eq_of_lt (omega arith) in
     let whole : n ≡ suc (n - 1) = omega arith in
     let g : root * root ^ (n - 1) ≡ root ^ n =
-      (let h : root * root ^ (n - 1) ≡ root ^ (n - 1) * root = omega arith in h) ∙ sym (pow-suc root (n - 1)) ∙ ap (λ z. root ^ z) (sym whole) in
+    (let h : root * root ^ (n - 1) ≡ root ^ (n - 1) * root = omega arith in h) ∙ sym (pow-suc root (n - 1)) ∙ ap (λ z. root ^ z) (sym whole) in
     mul_same q root root (root ^ (n - 1) % q) (root ^ (n - 1)) refl (mod-mod (root ^ (n - 1)) q) ∙ ap (λ z. z % q) g ∙ e ∙ sym small
 
 pub not_zero : (q n root r : ℕ) → 1 < q → 0 < n → root ^ n % q ≡ q - 1 → r ≡ root ^ (n - 1) % q → 0 < r

@@ -1,7 +1,6 @@
 -- Where the nodes of the tree stand in the tables.
-use Rattle.std.proofs.Common.{◌≡◌, ℕ, zero, suc, ◌+◌, ◌-◌, ◌*◌, ◌/◌, ◌^◌, ◌<◌, ◌≤◌, sym, ◌∙◌, ap, arith}
-use Rattle.std.proofs.Math.Nat.{pow-suc, mul-le-mul_left, pow-le-pow_right}
-use Rattle.std.proofs.lemmas.Nat.{pow_pos}
+use Rattle.std.proofs.Common.{◌≡◌, ℕ, suc, ◌+◌, ◌-◌, ◌*◌, ◌/◌, ◌^◌, ◌<◌, ◌≤◌, sym, ◌∙◌, ap, arith}
+use Rattle.std.proofs.Math.Nat.{pow-suc, pow-le-pow_right}
 use Rattle.ring_ntt.proofs.Undone.{half_within, low_within}
 
 pub few_places : (t : ℕ) → t ≤ 12 → 2 ^ t ≤ 4096
@@ -30,5 +29,5 @@ halves_of t depth k l h =
       double = omega (arith, p);
       place = low_within t d k within;
       left = rw even at first;
-      right = half_within t d k 1 (omega arith) within
+      right = half_within t d k 1 (omega arith) within;
     }

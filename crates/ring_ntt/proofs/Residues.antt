@@ -1,13 +1,12 @@
 -- Residues of whole numbers, as sums of naturals modulo q.
-use Rattle.std.proofs.Common.{◌≡◌, ℕ, zero, suc, ◌+◌, ◌-◌, ◌*◌, ◌/◌, ◌%◌, ◌<◌, ◌≤◌, Bool, true, false, cond, refl, sym, ◌∙◌, ap, arith}
+use Rattle.std.proofs.Common.{◌≡◌, ℕ, zero, suc, ◌+◌, ◌-◌, ◌*◌, ◌/◌, ◌%◌, ◌<◌, Bool, true, false, cond, refl, sym, ◌∙◌, ap, arith}
 use Rattle.std.proofs.Math.Nat.{mod-mod, mod-eq_of_lt, div-add-mod}
 use Rattle.std.proofs.lemmas.Nat.{mod_below}
-use Rattle.std.proofs.lemmas.Int.{ints}
 use Rattle.std.specs.Prelude.{ℤ, pos, negsuc, ◌+ℤ◌, ◌*ℤ◌, neg_ℤ}
 use borrow.Author.Differences.{up, down, sum_is_lem}
 use Rattle.ring_spec.specs.Ring.{total, residue}
 use Rattle.ring_ntt.specs.Transform.{sum_of}
-use Rattle.ring_ntt.proofs.Congruence.{add_same, mul_same, shift_same}
+use Rattle.ring_ntt.proofs.Congruence.{add_same, shift_same}
 
 pub residue_below : (q : ℕ) (z : ℤ) → 0 < q → residue q z < q
 unfolding residue
@@ -38,12 +37,12 @@ residue-add q x y l =
     let s = sum_is_lem x y in
     let z : ℤ = x +ℤ y in
     cancel_same q (residue q z) (residue q x + residue q y) (down z + (down x + down y)) l
-      ( ap (λ r. r % q) (let h : residue q z + (down z + (down x + down y)) ≡ residue q z + down z + (down x + down y) = omega arith in h)
-      ∙ add_same q (residue q z + down z) (up z) (down x + down y) (down x + down y) (residue_difference q z l) refl
-      ∙ ap (λ r. r % q) (let h : up z + (down x + down y) ≡ up x + up y + down z = omega (arith, s) in h)
-      ∙ add_same q (up x + up y) (residue q x + down x + (residue q y + down y)) (down z) (down z)
-          (sym (add_same q (residue q x + down x) (up x) (residue q y + down y) (up y) (residue_difference q x l) (residue_difference q y l))) refl
-      ∙ ap (λ r. r % q) (let h : residue q x + down x + (residue q y + down y) + down z ≡ residue q x + residue q y + (down z + (down x + down y)) = omega arith in h))
+    (ap (λ r. r % q) (let h : residue q z + (down z + (down x + down y)) ≡ residue q z + down z + (down x + down y) = omega arith in h)
+    ∙ add_same q (residue q z + down z) (up z) (down x + down y) (down x + down y) (residue_difference q z l) refl
+    ∙ ap (λ r. r % q) (let h : up z + (down x + down y) ≡ up x + up y + down z = omega (arith, s) in h)
+    ∙ add_same q (up x + up y) (residue q x + down x + (residue q y + down y)) (down z) (down z)
+    (sym (add_same q (residue q x + down x) (up x) (residue q y + down y) (up y) (residue_difference q x l) (residue_difference q y l))) refl
+    ∙ ap (λ r. r % q) (let h : residue q x + down x + (residue q y + down y) + down z ≡ residue q x + residue q y + (down z + (down x + down y)) = omega arith in h))
 
 zero_residue : (q : ℕ) → residue q (pos 0) % q ≡ 0 % q
 unfolding residue
@@ -66,7 +65,7 @@ residue-negative q (suc a) l =
     shift_same q (q - 1 - a % q) ((q - 1) * suc a) (suc a) (a / q + 1) (omega (arith, b, e, g))
 
 pub residue-product : (q : ℕ) (c : Bool) (x y z : ℕ) → 0 < q →
-  residue q (cond c (pos x *ℤ pos y) (neg_ℤ (pos x *ℤ pos z))) % q ≡ cond c (x * y) ((q - 1) * (x * z)) % q
+    residue q (cond c (pos x *ℤ pos y) (neg_ℤ (pos x *ℤ pos z))) % q ≡ cond c (x * y) ((q - 1) * (x * z)) % q
 unfolding residue
 residue-product q true x y z l = mod-mod (x * y) q
 residue-product q false x y z l = residue-negative q (x * z) l

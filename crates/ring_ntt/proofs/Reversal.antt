@@ -67,10 +67,10 @@ reversed_upper d k b below g l s =
     let kj : k ≡ 2 ^ d + j = omega arith in
     let place : 2 * k + b ≡ 2 ^ suc d + (2 * j + b) = omega arith in
     let a1 : reversed (suc (suc d)) (2 * k + b) ≡ 2 * reversed (suc d) (2 * j + b) + 1 =
-      ap (λ z. reversed (suc (suc d)) z) place ∙ reversed_high (suc d) (2 * j + b) (omega arith) in
+    ap (λ z. reversed (suc (suc d)) z) place ∙ reversed_high (suc d) (2 * j + b) (omega arith) in
     let a2 : reversed (suc (suc d)) k ≡ 2 * reversed (suc d) k = reversed_low (suc d) k (omega arith) in
     let a3 : reversed (suc d) k ≡ 2 * reversed d j + 1 =
-      ap (λ z. reversed (suc d) z) kj ∙ reversed_high d j (omega arith) in
+    ap (λ z. reversed (suc d) z) kj ∙ reversed_high d j (omega arith) in
     let a4 : reversed (suc d) j ≡ 2 * reversed d j = reversed_low d j (omega arith) in
     let a5 : DigitRises (suc d) j b = below j (omega arith) in
     let scaled = ap (λ z. b * z) p2 in
@@ -89,8 +89,8 @@ reversed-digit zero k b s l = only_zero k b (omega arith) (omega arith)
 reversed-digit (suc zero) k b s l = one_or_less k b (omega arith) s
 reversed-digit (suc (suc d)) k b s l =
     elim (cases_lt (2 * k + b) (2 ^ suc d)) [
-      inl low ↦ reversed_lower (suc d) k b (reversed-digit (suc d) k b s low) low
-    | inr high ↦ reversed_upper d k b (λ j m. reversed-digit (suc d) j b s m) high l s
+      | inl low ↦ reversed_lower (suc d) k b (reversed-digit (suc d) k b s low) low
+      | inr high ↦ reversed_upper d k b (λ j m. reversed-digit (suc d) j b s m) high l s
     ]
 
 -- ---- the table of powers
@@ -118,11 +118,11 @@ powers-in_order q zero psi l = ap (λ z. z ∷ []) (sym (ap (λ z. z % q) (pow-z
 powers-in_order q (suc d) psi l =
     let half : powers q d (psi * psi % q) ≡ map (power_of q (psi * psi % q)) (bit_reversed d) = powers-in_order q d (psi * psi % q) l in
     let even : map (power_of q (psi * psi % q)) (bit_reversed d) ≡ map (power_of q psi) (map (λ r. 2 * r) (bit_reversed d)) =
-      map_along (power_of q (psi * psi % q)) (power_of q psi) (λ r. 2 * r) (square-power q psi) (bit_reversed d) in
+    map_along (power_of q (psi * psi % q)) (power_of q psi) (λ r. 2 * r) (square-power q psi) (bit_reversed d) in
     let odd : map (λ r. multiple q psi (power_of q (psi * psi % q) r)) (bit_reversed d) ≡ map (power_of q psi) (map (λ r. 2 * r + 1) (bit_reversed d)) =
-      map_along (λ r. multiple q psi (power_of q (psi * psi % q) r)) (power_of q psi) (λ r. 2 * r + 1) (next-power q psi) (bit_reversed d) in
+    map_along (λ r. multiple q psi (power_of q (psi * psi % q) r)) (power_of q psi) (λ r. 2 * r + 1) (next-power q psi) (bit_reversed d) in
     let both : map (multiple q psi) (map (power_of q (psi * psi % q)) (bit_reversed d)) ≡ map (λ r. multiple q psi (power_of q (psi * psi % q) r)) (bit_reversed d) =
-      map-map (multiple q psi) (power_of q (psi * psi % q)) (bit_reversed d) in
+    map-map (multiple q psi) (power_of q (psi * psi % q)) (bit_reversed d) in
     ap (λ z. z ++ map (multiple q psi) z) half
     ∙ ap (λ z. map (power_of q (psi * psi % q)) (bit_reversed d) ++ z) (both ∙ odd)
     ∙ ap (λ z. z ++ map (power_of q psi) (map (λ r. 2 * r + 1) (bit_reversed d))) even

@@ -1,5 +1,5 @@
 -- A power by squarings: one step leaves `made * square ^ rest` as it was, modulo q.
-use Rattle.std.proofs.Common.{◌≡◌, ℕ, zero, suc, ◌+◌, ◌*◌, ◌%◌, ◌^◌, refl, sym, ◌∙◌, ap, arith, add-one}
+use Rattle.std.proofs.Common.{◌≡◌, ℕ, ◌+◌, ◌*◌, ◌%◌, ◌^◌, refl, sym, ◌∙◌, ap, arith, add-one}
 use Rattle.std.proofs.Math.Nat.{pow-suc, mod-mod}
 use Rattle.ring_ntt.proofs.Congruence.{mul_same}
 use Rattle.ring_ntt.proofs.Reversal.{square-power}

@@ -1,5 +1,5 @@
 -- Laws of finite sums, and of values of polynomials.
-use Rattle.std.proofs.Common.{◌≡◌, ℕ, zero, suc, ◌+◌, ◌*◌, ◌%◌, ◌^◌, ◌<◌, ◌≤◌, refl, sym, ◌∙◌, ap, arith, add-suc, add-zero}
+use Rattle.std.proofs.Common.{◌≡◌, ℕ, zero, suc, ◌+◌, ◌*◌, ◌%◌, ◌^◌, ◌<◌, refl, sym, ◌∙◌, ap, arith, add-suc, add-zero}
 use Rattle.std.proofs.lemmas.Nat.{pow-add}
 use Rattle.ring_ntt.specs.Transform.{sum_of, value, monomial}
 use Rattle.ring_ntt.specs.Nodes.{folded}
@@ -49,11 +49,11 @@ sum-swap (suc m) n f =
 pub value-folded : (q m w x : ℕ) (f : ℕ → ℕ) → x ^ m % q ≡ w % q → value m (folded m w f) x % q ≡ value (m + m) f x % q
 value-folded q m w x f e =
     sum_same q m (monomial (folded m w f) x) (λ i. monomial f x i + monomial f x (m + i))
-      (λ i l.
-        let p : x ^ (m + i) ≡ x ^ m * x ^ i = pow-add x m i in
-        let a : (w * (f (m + i) * x ^ i)) % q ≡ (x ^ m * (f (m + i) * x ^ i)) % q = mul_same q w (x ^ m) (f (m + i) * x ^ i) (f (m + i) * x ^ i) (sym e) refl in
-        let b : (f i * x ^ i + w * (f (m + i) * x ^ i)) % q ≡ (f i * x ^ i + x ^ m * (f (m + i) * x ^ i)) % q = add_same q (f i * x ^ i) (f i * x ^ i) (w * (f (m + i) * x ^ i)) (x ^ m * (f (m + i) * x ^ i)) refl a in
-        let left : (f i + w * f (m + i)) * x ^ i ≡ f i * x ^ i + w * (f (m + i) * x ^ i) = omega arith in
-        let right : f (m + i) * (x ^ m * x ^ i) ≡ x ^ m * (f (m + i) * x ^ i) = omega arith in
-        ap (λ z. z % q) left ∙ b ∙ ap (λ z. (f i * x ^ i + z) % q) (sym right) ∙ ap (λ z. (f i * x ^ i + f (m + i) * z) % q) (sym p))
+    (λ i l.
+    let p : x ^ (m + i) ≡ x ^ m * x ^ i = pow-add x m i in
+    let a : (w * (f (m + i) * x ^ i)) % q ≡ (x ^ m * (f (m + i) * x ^ i)) % q = mul_same q w (x ^ m) (f (m + i) * x ^ i) (f (m + i) * x ^ i) (sym e) refl in
+    let b : (f i * x ^ i + w * (f (m + i) * x ^ i)) % q ≡ (f i * x ^ i + x ^ m * (f (m + i) * x ^ i)) % q = add_same q (f i * x ^ i) (f i * x ^ i) (w * (f (m + i) * x ^ i)) (x ^ m * (f (m + i) * x ^ i)) refl a in
+    let left : (f i + w * f (m + i)) * x ^ i ≡ f i * x ^ i + w * (f (m + i) * x ^ i) = omega arith in
+    let right : f (m + i) * (x ^ m * x ^ i) ≡ x ^ m * (f (m + i) * x ^ i) = omega arith in
+    ap (λ z. z % q) left ∙ b ∙ ap (λ z. (f i * x ^ i + z) % q) (sym right) ∙ ap (λ z. (f i * x ^ i + f (m + i) * z) % q) (sym p))
     ∙ ap (λ z. z % q) (sum-add m (monomial f x) (λ i. monomial f x (m + i)) ∙ sym (sum-split m m (monomial f x)))

@@ -1,7 +1,6 @@
 -- The tree of divisions: what its nodes give depends on residues alone, and has as many entries as it should.
-use Rattle.std.proofs.Common.{◌≡◌, ℕ, zero, suc, ◌+◌, ◌-◌, ◌*◌, ◌%◌, ◌^◌, ◌<◌, ◌≤◌, List, [], ◌∷◌, ◌++◌, length, get_or, take, drop, cond, true, false, refl, sym, ◌∙◌, ap, arith, length-append}
+use Rattle.std.proofs.Common.{◌≡◌, ℕ, zero, suc, ◌+◌, ◌-◌, ◌*◌, ◌%◌, ◌^◌, ◌<◌, List, [], ◌∷◌, length, get_or, refl, ◌∙◌, ap, arith, length-append}
 use Rattle.std.proofs.Math.Nat.{pow-suc}
-use Rattle.std.proofs.lemmas.Nat.{pow_pos}
 use Rattle.ring_ntt.specs.Nodes.{folded, node}
 use Rattle.ring_ntt.proofs.Congruence.{add_same, mul_same}
 
@@ -26,7 +25,7 @@ node_same q zs zero k f g h = ap (λ z. z ∷ []) (h 0 (omega arith))
 node_same q zs (suc d) k f g h =
     let p = pow-suc 2 d in
     let a = node_same q zs d (2 * k) (folded (2 ^ d) (get_or zs k 0) f) (folded (2 ^ d) (get_or zs k 0) g)
-      (λ i l. folded_same q (2 ^ d) (get_or zs k 0) i f g (h i (omega arith)) (h (2 ^ d + i) (omega arith))) in
+    (λ i l. folded_same q (2 ^ d) (get_or zs k 0) i f g (h i (omega arith)) (h (2 ^ d + i) (omega arith))) in
     let b = node_same q zs d (2 * k + 1) (folded (2 ^ d) (q - get_or zs k 0) f) (folded (2 ^ d) (q - get_or zs k 0) g)
-      (λ i l. folded_same q (2 ^ d) (q - get_or zs k 0) i f g (h i (omega arith)) (h (2 ^ d + i) (omega arith))) in
+    (λ i l. folded_same q (2 ^ d) (q - get_or zs k 0) i f g (h i (omega arith)) (h (2 ^ d + i) (omega arith))) in
     cc

@@ -1,5 +1,5 @@
 -- The way back undoes the way forward, up to a factor 2^d.
-use Rattle.std.proofs.Common.{◌≡◌, ℕ, zero, suc, ◌+◌, ◌-◌, ◌*◌, ◌%◌, ◌^◌, ◌<◌, ◌≤◌, List, [], ◌∷◌, ◌++◌, map, length, get_or, take, drop, cond, ltb, true, false, inl, inr, refl, sym, ◌∙◌, ap, subst, arith, length-append}
+use Rattle.std.proofs.Common.{◌≡◌, ℕ, zero, suc, ◌+◌, ◌-◌, ◌*◌, ◌%◌, ◌^◌, ◌<◌, ◌≤◌, List, [], ◌∷◌, ◌++◌, map, length, get_or, take, drop, cond, inl, inr, refl, sym, ◌∙◌, ap, subst, arith}
 use Rattle.std.proofs.Math.Nat.{pow-suc, mod-mod, mul-le-mul_left, mul-le-mul_right}
 use Rattle.std.proofs.lemmas.Nat.{pow_pos}
 use Rattle.std.proofs.lemmas.List.{take_at, drop_at, map-append, take-append-drop, length-take, length-drop}
@@ -36,7 +36,7 @@ difference_back q m p x y w c z e one inverse =
     let g2 = ap (λ r. p * x * r) one in
     let g3 = ap (λ r. p * y * c * r) one in
     let inner : (p * (x + w * y) + m * (p * (x + c * y))) % q ≡ (2 * p * y * w) % q =
-      shift_same q (p * (x + w * y) + m * (p * (x + c * y))) (2 * p * y * w) (p * y) (p * x + p * y * c) (omega (arith, g1, g2, g3)) in
+    shift_same q (p * (x + w * y) + m * (p * (x + c * y))) (2 * p * y * w) (p * y) (p * x + p * y * c) (omega (arith, g1, g2, g3)) in
     mul_same q z z (p * (x + w * y) + m * (p * (x + c * y))) (2 * p * y * w) refl inner
     ∙ ap (λ r. r % q) (let h : z * (2 * p * y * w) ≡ z * w * (2 * p * y) = omega arith in h)
     ∙ mul_same q (z * w) 1 (2 * p * y) (2 * p * y) inverse refl
@@ -46,8 +46,8 @@ left_again : (q m c u v w z : ℕ) → q ≡ m + 1 → (z * w) % q ≡ 1 % q →
 left_again q m c u v w z one inverse =
     let g = ap (λ r. c * v * r) one in
     let part : (w * (c * (z * (u + m * v)))) % q ≡ (1 * (c * (u + m * v))) % q =
-      ap (λ r. r % q) (let h : w * (c * (z * (u + m * v))) ≡ z * w * (c * (u + m * v)) = omega arith in h)
-      ∙ mul_same q (z * w) 1 (c * (u + m * v)) (c * (u + m * v)) inverse refl in
+    ap (λ r. r % q) (let h : w * (c * (z * (u + m * v))) ≡ z * w * (c * (u + m * v)) = omega arith in h)
+    ∙ mul_same q (z * w) 1 (c * (u + m * v)) (c * (u + m * v)) inverse refl in
     add_same q (c * (u + v)) (c * (u + v)) (w * (c * (z * (u + m * v)))) (1 * (c * (u + m * v))) refl part
     ∙ shift_same q (c * (u + v) + 1 * (c * (u + m * v))) (2 * c * u) 0 (c * v) (omega (arith, g))
 
@@ -65,8 +65,8 @@ right_again q m c u v w b z e one inverse =
     let g2 = ap (λ r. c * u * r) one in
     let g3 = ap (λ r. c * v * r) one in
     let part : (b * (c * (z * (u + m * v)))) % q ≡ (m * (c * (u + m * v))) % q =
-      ap (λ r. r % q) (let h : b * (c * (z * (u + m * v))) ≡ z * b * (c * (u + m * v)) = omega arith in h)
-      ∙ mul_same q (z * b) m (c * (u + m * v)) (c * (u + m * v)) (opposite q m w b z e one inverse) refl in
+    ap (λ r. r % q) (let h : b * (c * (z * (u + m * v))) ≡ z * b * (c * (u + m * v)) = omega arith in h)
+    ∙ mul_same q (z * b) m (c * (u + m * v)) (c * (u + m * v)) (opposite q m w b z e one inverse) refl in
     add_same q (c * (u + v)) (c * (u + v)) (b * (c * (z * (u + m * v)))) (m * (c * (u + m * v))) refl part
     ∙ shift_same q (c * (u + v) + m * (c * (u + m * v))) (2 * c * v) (2 * (c * v)) (c * u + c * v * q) (omega (arith, g1, g2, g3))
 
@@ -89,7 +89,7 @@ leaf_undone q zero f l = mod-mod (f 0) q ∙ ap (λ z. z % q) (let h : f 0 ≡ 1
 leaf_undone q (suc i) f l = absurd (omega arith)
 
 pub undone-node : (q t : ℕ) (zs is : List ℕ) (d k : ℕ) (f : ℕ → ℕ) → 0 < q → AreInverse q t zs is → (k + 1) * 2 ^ d ≤ 2 * 2 ^ t →
-  (i : ℕ) → i < 2 ^ d → undone q is d k (node q zs d k f) i % q ≡ (2 ^ d * f i) % q
+    (i : ℕ) → i < 2 ^ d → undone q is d k (node q zs d k f) i % q ≡ (2 ^ d * f i) % q
 unfolding node undone
 undone-node q t zs is zero k f some inv w i l = leaf_undone q i f l
 undone-node q t zs is (suc d) k f some inv within i l =
@@ -113,26 +113,26 @@ undone-node q t zs is (suc d) k f some inv within i l =
     let hu : (j : ℕ) → j < m → u j % q ≡ (m * left j) % q = undone-node q t zs is d (2 * k) left some inv wl in
     let hv : (j : ℕ) → j < m → v j % q ≡ (m * right j) % q = undone-node q t zs is d (2 * k + 1) right some inv wr in
     let parts : undone q is (suc d) k (a ++ b) i ≡ joined q m z u v i =
-      ap (λ y. joined q m z (undone q is d (2 * k) y) (undone q is d (2 * k + 1) (drop m (a ++ b))) i) (take_at a b m la)
-      ∙ ap (λ y. joined q m z u (undone q is d (2 * k + 1) y) i) (drop_at a b m la) in
+    ap (λ y. joined q m z (undone q is d (2 * k) y) (undone q is d (2 * k + 1) (drop m (a ++ b))) i) (take_at a b m la)
+    ∙ ap (λ y. joined q m z u (undone q is d (2 * k + 1) y) i) (drop_at a b m la) in
     ap (λ y. y % q) parts
     ∙ elim (cases_lt i m) as (λ _. joined q m z u v i % q ≡ (2 ^ suc d * f i) % q) [
-      inl low ↦
-        ap (λ y. y % q) (joined_low q m z i u v low)
-        ∙ add_same q (u i) (m * left i) (v i) (m * right i) (hu i low) (hv i low)
-        ∙ sum_back q m (f i) (f (m + i)) w c (omega arith)
-        ∙ ap (λ y. y % q) (let h : 2 * m * f i ≡ m * 2 * f i = omega arith in h ∙ ap (λ y. y * f i) (sym double))
-    | inr high ↦
-        let j : ℕ = i - m in
-        let place : i ≡ m + j = omega arith in
-        let below : j < m = omega (arith, double) in
-        ap (λ y. joined q m z u v y % q) place
-        ∙ ap (λ y. y % q) (joined_high q m z j u v)
-        ∙ mul_same q z z (u j + (q - 1) * v j) (m * left j + (q - 1) * (m * right j)) refl
-            (add_same q (u j) (m * left j) ((q - 1) * v j) ((q - 1) * (m * right j)) (hu j below)
-              (mul_same q (q - 1) (q - 1) (v j) (m * right j) refl (hv j below)))
-        ∙ difference_back q (q - 1) m (f j) (f (m + j)) w c z (omega arith) (omega arith) (inv.inverse k here)
-        ∙ ap (λ y. y % q) (let h : 2 * m * f (m + j) ≡ m * 2 * f (m + j) = omega arith in h ∙ ap (λ y. y * f (m + j)) (sym double) ∙ ap (λ y. 2 ^ suc d * f y) (sym place))
+      | inl low ↦
+          ap (λ y. y % q) (joined_low q m z i u v low)
+          ∙ add_same q (u i) (m * left i) (v i) (m * right i) (hu i low) (hv i low)
+          ∙ sum_back q m (f i) (f (m + i)) w c (omega arith)
+          ∙ ap (λ y. y % q) (let h : 2 * m * f i ≡ m * 2 * f i = omega arith in h ∙ ap (λ y. y * f i) (sym double))
+      | inr high ↦
+          let j : ℕ = i - m in
+          let place : i ≡ m + j = omega arith in
+          let below : j < m = omega (arith, double) in
+          ap (λ y. joined q m z u v y % q) place
+          ∙ ap (λ y. y % q) (joined_high q m z j u v)
+          ∙ mul_same q z z (u j + (q - 1) * v j) (m * left j + (q - 1) * (m * right j)) refl
+          (add_same q (u j) (m * left j) ((q - 1) * v j) ((q - 1) * (m * right j)) (hu j below)
+          (mul_same q (q - 1) (q - 1) (v j) (m * right j) refl (hv j below)))
+          ∙ difference_back q (q - 1) m (f j) (f (m + j)) w c z (omega arith) (omega arith) (inv.inverse k here)
+          ∙ ap (λ y. y % q) (let h : 2 * m * f (m + j) ≡ m * 2 * f (m + j) = omega arith in h ∙ ap (λ y. y * f (m + j)) (sym double) ∙ ap (λ y. 2 ^ suc d * f y) (sym place))
     ]
 
 -- a value times c and the factor of d levels
@@ -150,7 +150,7 @@ leaf_again q c (v ∷ []) e = ap (λ z. z * v % q ∷ []) (let h : c ≡ c * 1 =
 leaf_again q c (v ∷ (x ∷ xs)) e = absurd (omega (arith, e))
 
 pub node-undone : (q t : ℕ) (zs is : List ℕ) (d k c : ℕ) (y : List ℕ) → 0 < q → AreInverse q t zs is → (k + 1) * 2 ^ d ≤ 2 * 2 ^ t → length y ≡ 2 ^ d →
-  node q zs d k (times_undone q c is d k y) ≡ map (scaled_by q c d) y
+    node q zs d k (times_undone q c is d k y) ≡ map (scaled_by q c d) y
 unfolding node undone times_undone scaled_by
 node-undone q t zs is zero k c y some inv within e = leaf_again q c y e
 node-undone q t zs is (suc d) k c y some inv within e =
@@ -171,15 +171,15 @@ node-undone q t zs is (suc d) k c y some inv within e =
     let lt : length (take m y) ≡ m = simp length-take (omega (arith, e, double)) in
     let ld : length (drop m y) ≡ m = simp length-drop (omega (arith, e, double)) in
     let left : node q zs d (2 * k) (folded m w f) ≡ node q zs d (2 * k) (times_undone q (2 * c) is d (2 * k) (take m y)) =
-      node_same q zs d (2 * k) (folded m w f) (times_undone q (2 * c) is d (2 * k) (take m y))
-        (λ i l. ap (λ r. (c * r + w * f (m + i)) % q) (joined_low q m z i u v l)
-          ∙ ap (λ r. (c * (u i + v i) + w * (c * r)) % q) (joined_high q m z i u v)
-          ∙ left_again q (q - 1) c (u i) (v i) w z one (inv.inverse k here)) in
+    node_same q zs d (2 * k) (folded m w f) (times_undone q (2 * c) is d (2 * k) (take m y))
+    (λ i l. ap (λ r. (c * r + w * f (m + i)) % q) (joined_low q m z i u v l)
+    ∙ ap (λ r. (c * (u i + v i) + w * (c * r)) % q) (joined_high q m z i u v)
+    ∙ left_again q (q - 1) c (u i) (v i) w z one (inv.inverse k here)) in
     let right : node q zs d (2 * k + 1) (folded m b f) ≡ node q zs d (2 * k + 1) (times_undone q (2 * c) is d (2 * k + 1) (drop m y)) =
-      node_same q zs d (2 * k + 1) (folded m b f) (times_undone q (2 * c) is d (2 * k + 1) (drop m y))
-        (λ i l. ap (λ r. (c * r + b * f (m + i)) % q) (joined_low q m z i u v l)
-          ∙ ap (λ r. (c * (u i + v i) + b * (c * r)) % q) (joined_high q m z i u v)
-          ∙ right_again q (q - 1) c (u i) (v i) w b z (omega arith) one (inv.inverse k here)) in
+    node_same q zs d (2 * k + 1) (folded m b f) (times_undone q (2 * c) is d (2 * k + 1) (drop m y))
+    (λ i l. ap (λ r. (c * r + b * f (m + i)) % q) (joined_low q m z i u v l)
+    ∙ ap (λ r. (c * (u i + v i) + b * (c * r)) % q) (joined_high q m z i u v)
+    ∙ right_again q (q - 1) c (u i) (v i) w b z (omega arith) one (inv.inverse k here)) in
     let hl = node-undone q t zs is d (2 * k) (2 * c) (take m y) some inv wl lt in
     let hr = node-undone q t zs is d (2 * k + 1) (2 * c) (drop m y) some inv wr ld in
     let factor : 2 * c * m ≡ c * 2 ^ suc d = (let h : 2 * c * m ≡ c * (m * 2) = omega arith in h) ∙ ap (λ r. c * r) (sym double) in

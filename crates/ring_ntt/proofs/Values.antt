@@ -1,15 +1,14 @@
 -- What the tree of divisions gives are values: below a node stand the values at the powers of psi whose
 -- exponents belong to it.
-use Rattle.std.proofs.Common.{◌≡◌, ℕ, zero, suc, ◌+◌, ◌-◌, ◌*◌, ◌%◌, ◌^◌, ◌<◌, ◌≤◌, List, [], ◌∷◌, ◌++◌, map, length, get_or, refl, sym, ◌∙◌, ap, arith, add-one}
+use Rattle.std.proofs.Common.{◌≡◌, ℕ, zero, suc, ◌+◌, ◌-◌, ◌*◌, ◌%◌, ◌^◌, ◌<◌, ◌≤◌, List, [], ◌∷◌, ◌++◌, map, get_or, refl, sym, ◌∙◌, ap, arith}
 use Rattle.std.proofs.Math.Nat.{pow-zero, pow-suc, mod-eq_of_lt, mod-mod, mul-le-mul_left}
 use Rattle.std.proofs.lemmas.Nat.{pow_pos, pow-add, mod_below}
 use Rattle.std.proofs.lemmas.List.{map-append}
-use Rattle.ring_ntt.specs.Transform.{sum_of, value, monomial, bit_reversed, value_at, transform, entry}
+use Rattle.ring_ntt.specs.Transform.{sum_of, value, bit_reversed, value_at, transform, entry}
 use Rattle.ring_ntt.specs.Nodes.{folded, node, powers}
-use Rattle.ring_ntt.proofs.Congruence.{add_same, mul_same, pow_same, shift_same}
+use Rattle.ring_ntt.proofs.Congruence.{mul_same, pow_same, shift_same}
 use Rattle.ring_ntt.proofs.Sums.{value-folded}
 use Rattle.ring_ntt.proofs.Reversal.{reversed, reversed-digit, reversed_first, powers_at}
-use Rattle.ring_ntt.proofs.Tree.{node_same}
 
 pub pow-pow : (x a b : ℕ) → (x ^ a) ^ b ≡ x ^ (a * b)
 pow-pow x a zero = pow-zero (x ^ a) ∙ sym (ap (λ z. x ^ z) (let e : a * 0 ≡ 0 = omega arith in e) ∙ pow-zero x)
@@ -63,12 +62,12 @@ left_placed t d k a s h =
     let here : 2 * reversed t k ≡ a * 2 ^ suc d = h.first (omega arith) in
     record {
       first = λ l.
-        let digit : 2 * reversed t (2 * k + 0) ≡ reversed t k + 0 * 2 ^ t = reversed-digit t k 0 (omega arith) (let i = inside t d k l h.within in omega (arith, i)) in
-        let e : 2 * k + 0 ≡ 2 * k = omega arith in
-        let moved = ap (λ z. 2 * reversed t z) e in
-        omega (arith, digit, moved, here, ap1);
+          let digit : 2 * reversed t (2 * k + 0) ≡ reversed t k + 0 * 2 ^ t = reversed-digit t k 0 (omega arith) (let i = inside t d k l h.within in omega (arith, i)) in
+          let e : 2 * k + 0 ≡ 2 * k = omega arith in
+          let moved = ap (λ z. 2 * reversed t z) e in
+          omega (arith, digit, moved, here, ap1);
       stride = omega (arith, h.stride, sp);
-      within = omega (arith, h.within, kp)
+      within = omega (arith, h.within, kp);
     }
 
 pub right_placed : (t d k a s : ℕ) → IsPlaced t (suc d) k a s → IsPlaced t d (2 * k + 1) (a + s) (2 * s)
@@ -80,10 +79,10 @@ right_placed t d k a s h =
     let here : 2 * reversed t k ≡ a * 2 ^ suc d = h.first (omega arith) in
     record {
       first = λ l.
-        let digit : 2 * reversed t (2 * k + 1) ≡ reversed t k + 1 * 2 ^ t = reversed-digit t k 1 (omega arith) (inside t d k l h.within) in
-        omega (arith, digit, here, ap1, sp, h.stride);
+          let digit : 2 * reversed t (2 * k + 1) ≡ reversed t k + 1 * 2 ^ t = reversed-digit t k 1 (omega arith) (inside t d k l h.within) in
+          omega (arith, digit, here, ap1, sp, h.stride);
       stride = omega (arith, h.stride, sp);
-      within = omega (arith, h.within, kp)
+      within = omega (arith, h.within, kp);
     }
 
 pub place_below : (t d k a s : ℕ) → IsPlaced t (suc d) k a s → k < 2 ^ t
@@ -143,7 +142,7 @@ unfolding sum_of
 one_term f x = let e = pow-zero x in let g = ap (λ z. f 0 * z) e in omega (arith, g)
 
 pub node-values : (q t psi d k a s : ℕ) (f : ℕ → ℕ) → 1 < q → psi ^ (2 ^ t) % q ≡ q - 1 → IsPlaced t d k a s →
-  node q (powers q t psi) d k f ≡ map (point_value q (2 ^ d) psi a s f) (bit_reversed d)
+    node q (powers q t psi) d k f ≡ map (point_value q (2 ^ d) psi a s f) (bit_reversed d)
 unfolding node bit_reversed point_value
 node-values q t psi zero k a s f l e h = ap (λ z. z % q ∷ []) (sym (one_term f (psi ^ (a + s * 0))))
 node-values q t psi (suc d) k a s f l e h =
@@ -154,11 +153,11 @@ node-values q t psi (suc d) k a s f l e h =
     let a1 = node-values q t psi d (2 * k) a (2 * s) left l e (left_placed t d k a s h) in
     let a2 = node-values q t psi d (2 * k + 1) (a + s) (2 * s) right l e (right_placed t d k a s h) in
     let b1 = map_along (point_value q (2 ^ d) psi a (2 * s) left) (point_value q (2 ^ suc d) psi a s f) (λ r. 2 * r)
-      (λ r. ap (λ z. value (2 ^ d) left (psi ^ z) % q) (let g : a + 2 * s * r ≡ a + s * (2 * r) = omega arith in g)
-        ∙ folded_value q d w (psi ^ (a + s * (2 * r))) f (left_power q t d k a s psi r l e h)) (bit_reversed d) in
+    (λ r. ap (λ z. value (2 ^ d) left (psi ^ z) % q) (let g : a + 2 * s * r ≡ a + s * (2 * r) = omega arith in g)
+    ∙ folded_value q d w (psi ^ (a + s * (2 * r))) f (left_power q t d k a s psi r l e h)) (bit_reversed d) in
     let b2 = map_along (point_value q (2 ^ d) psi (a + s) (2 * s) right) (point_value q (2 ^ suc d) psi a s f) (λ r. 2 * r + 1)
-      (λ r. ap (λ z. value (2 ^ d) right (psi ^ z) % q) (let g : a + s + 2 * s * r ≡ a + s * (2 * r + 1) = omega arith in g)
-        ∙ folded_value q d (q - w) (psi ^ (a + s * (2 * r + 1))) f (right_power q t d k a s psi r l e h)) (bit_reversed d) in
+    (λ r. ap (λ z. value (2 ^ d) right (psi ^ z) % q) (let g : a + s + 2 * s * r ≡ a + s * (2 * r + 1) = omega arith in g)
+    ∙ folded_value q d (q - w) (psi ^ (a + s * (2 * r + 1))) f (right_power q t d k a s psi r l e h)) (bit_reversed d) in
     let m = map-append (point_value q (2 ^ suc d) psi a s f) (map (λ r. 2 * r) (bit_reversed d)) (map (λ r. 2 * r + 1) (bit_reversed d)) in
     ap (λ z. z ++ node q zs d (2 * k + 1) right) (a1 ∙ b1) ∙ ap (λ z. map (point_value q (2 ^ suc d) psi a s f) (map (λ r. 2 * r) (bit_reversed d)) ++ z) (a2 ∙ b2) ∙ sym m
 
@@ -176,14 +175,14 @@ root_placed (suc t) l =
     record {
       first = λ _. omega (arith, digit, none);
       stride = refl;
-      within = omega arith
+      within = omega arith;
     }
 
 -- at the root the tree gives the transform
 pub node-transform : (q t psi : ℕ) (f : List ℕ) → 1 < q → psi ^ (2 ^ t) % q ≡ q - 1 → 0 < t →
-  node q (powers q t psi) t 1 (entry f) ≡ transform q psi t f
+    node q (powers q t psi) t 1 (entry f) ≡ transform q psi t f
 unfolding transform value_at point_value
 node-transform q t psi f l e some =
     node-values q t psi t 1 1 2 (entry f) l e (root_placed t some)
     ∙ map_equal (point_value q (2 ^ t) psi 1 2 (entry f)) (value_at q (2 ^ t) psi (entry f))
-      (λ r. ap (λ z. value (2 ^ t) (entry f) (psi ^ z) % q) (let g : 1 + 2 * r ≡ 2 * r + 1 = omega arith in g)) (bit_reversed t)
+    (λ r. ap (λ z. value (2 ^ t) (entry f) (psi ^ z) % q) (let g : 1 + 2 * r ≡ 2 * r + 1 = omega arith in g)) (bit_reversed t)

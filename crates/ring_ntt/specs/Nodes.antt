@@ -1,7 +1,7 @@
 -- The tree of divisions that a fast transform walks, level by level. Node 1 stands for X^n + 1, and
 -- node k, over X^2m - c, has the children 2k, over X^m - w, and 2k + 1, over X^m + w, where w^2 = c and
 -- w is entry k of the table.
-use Rattle.std.specs.Prelude.{◌≡◌, ℕ, zero, suc, ◌+◌, ◌-◌, ◌*◌, ◌/◌, ◌%◌, ◌^◌, ◌<◌, List, [], ◌∷◌, ◌++◌, map, get_or, length, take, drop, cond, nat_lt}
+use Rattle.std.specs.Prelude.{ℕ, zero, suc, ◌+◌, ◌-◌, ◌*◌, ◌%◌, ◌^◌, List, [], ◌∷◌, ◌++◌, map, get_or, take, drop, cond, nat_lt}
 use Rattle.ring_ntt.specs.Transform.{entry}
 
 -- w * z modulo q

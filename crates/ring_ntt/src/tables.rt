@@ -4,12 +4,11 @@ ghost use Rattle.ring_spec.specs.Ring.{IsPoly, ring_product};
 ghost use Rattle.ring_ntt.specs.Transform.{transform, entrywise};
 ghost use Rattle.ring_ntt.specs.Words.{quotient_of};
 
-use std::alloc::Global;
-
 use crate::fault::NttFault;
 use crate::twiddles::{Factor, Twiddles};
-use crate::words::{power, product, quotient, reduced, scaled};
+use crate::words::{lowered, power, quotient, reduced, scaled};
 use crate::{backward, forward};
+use std::alloc::Global;
 
 /// What transforms of n coefficients modulo q need, made once: the powers of a root psi with
 /// psi^n = -1, and of its inverse.
@@ -166,7 +165,7 @@ fn scale_down(a: &mut [u64], scale: Factor, q: u64)
     ensures scaled { (k : ℕ) → k < length a.old → get_or a.new k 0 ≡ scale.root * get_or a.old k 0 % q }
 {
     for x in a.iter_mut() {
-        *x = crate::words::lowered(scaled(*x, scale.root, scale.quotient, q), q);
+        *x = lowered(scaled(*x, scale.root, scale.quotient, q), q);
     }
 }
 

@@ -3,12 +3,11 @@
 ghost use Rattle.std.specs.Prelude.{◌≡◌, ◌<◌, IfOk};
 ghost use Rattle.ring_spec.specs.Ring.{IsPoly, ring_product};
 
+use crate::words::{power, product};
+use crate::{NttFault, Tables};
 use std::alloc::{AllocError, Global};
 use std::process::Abort;
 use std::test::Fail;
-
-use crate::words::{power, product};
-use crate::{NttFault, Tables};
 
 /// A modulus, a number whose (q-1)/2n-th power is a root, and a length. The last two are composite.
 const CASES: [(u64, u64, u64); 5] = [
@@ -19,13 +18,7 @@ const CASES: [(u64, u64, u64); 5] = [
     (6810591325885313, 3775157627830092, 64),
 ];
 
-fn tables_for<R: Abort>(
-    rt: &R,
-    alloc: Global,
-    q: u64,
-    n: u64,
-    psi: u64,
-) -> Result<Tables, NttFault>
+fn tables_for<R: Abort>(rt: &R, alloc: Global, q: u64, n: u64, psi: u64) -> Result<Tables, NttFault>
     ensures { IfOk result (λ t. (t.modulus ≡ q) × (t.length ≡ n)) }
 {
     assert!(rt; q % 2 == 1);
@@ -107,7 +100,11 @@ fn agrees<R: Abort>(rt: &R, alloc: Global, q: u64, generator: u64, n: u64) -> Re
     let g = sample(alloc, q, n, 5)?;
     multiply(&tables, a.as_mut_slice(), b.as_mut_slice());
     for (k, x) in a.iter().enumerate() {
-        assert_eq!(rt; *x, coefficient(f.as_slice(), g.as_slice(), k, q), "at {k} modulo {q}");
+        assert_eq!(rt;
+            *x,
+            coefficient(f.as_slice(), g.as_slice(), k, q),
+            "at {k} modulo {q}"
+        );
     }
     Ok(())
 }

@@ -2,9 +2,8 @@ ghost use Rattle.std.specs.Prelude.{◌≡◌, ℕ, ◌+◌, ◌-◌, ◌*◌, �
 ghost use Rattle.ring_ntt.specs.Words.{quotient_of};
 ghost use Rattle.ring_ntt.specs.Nodes.{powers, multiple};
 
-use std::alloc::{AllocError, Global};
-
 use crate::words::{product, quotient};
+use std::alloc::{AllocError, Global};
 
 /// The powers of a root in bit-reversed order, each with the quotient that its multiples need.
 #[derive(Drop)]
@@ -70,12 +69,7 @@ impl Twiddles {
 
 /// Fills an empty list with the powers of `base`: those of its square, then the same times `base`.
 #[tactic(auto, using(crate::proofs::Reversal::powers_none, crate::proofs::Reversal::powers_more))]
-fn push_powers(
-    roots: &mut Vec<u64>,
-    modulus: u64,
-    levels: u32,
-    base: u64,
-) -> Result<(), AllocError>
+fn push_powers(roots: &mut Vec<u64>, modulus: u64, levels: u32, base: u64) -> Result<(), AllocError>
     requires above_one { 1 < modulus }
     requires residue { base < modulus }
     requires empty { roots.old.items ≡ [] }

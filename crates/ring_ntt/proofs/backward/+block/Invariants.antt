@@ -1,6 +1,3 @@
-use Rattle.std.proofs.Common.{◌≡◌, ℕ, ◌+◌, ◌-◌, ◌*◌, ◌/◌, ◌%◌, ◌^◌, ◌<◌, ◌≤◌, length, get_or}
-use Rattle.ring_ntt.specs.Words.{quotient_of}
-use Rattle.ring_ntt.specs.Nodes.{powers, undone}
 use Rattle.ring_ntt.proofs.backward.+block.Given as goal
 
 -- proposed from what the function passes where it calls itself

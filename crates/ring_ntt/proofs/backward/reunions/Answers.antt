@@ -1,16 +1,16 @@
-use Rattle.std.proofs.Common.{◌≡◌, ℕ, ◌+◌, ◌-◌, ◌*◌, ◌%◌, ◌<◌, ◌≤◌, length, get_or, refl, sym, ◌∙◌, ap, subst, arith}
+use Rattle.std.proofs.Common.{◌≡◌, ◌+◌, ◌-◌, ◌*◌, ◌%◌, ◌<◌, length, get_or, refl, sym, ◌∙◌, ap, subst, arith}
 use Rattle.ring_ntt.proofs.Slots.{set_done, set_rest}
 use Rattle.ring_ntt.proofs.backward.reunions.Goals as goal
 
 pub pairs-init : goal.pairs-init
 pairs-init c = record {
-    low_below = λ k h. absurd (omega (arith, h));
-    high_below = λ k h. absurd (omega (arith, h));
-    sums = λ k h. absurd (omega (arith, h));
-    differences = λ k h. absurd (omega (arith, h));
-    low_rest = λ k h. refl;
-    high_rest = λ k h. refl
-  }
+  low_below = λ k h. absurd (omega (arith, h));
+  high_below = λ k h. absurd (omega (arith, h));
+  sums = λ k h. absurd (omega (arith, h));
+  differences = λ k h. absurd (omega (arith, h));
+  low_rest = λ k h. refl;
+  high_rest = λ k h. refl;
+}
 
 pub reunion-sum-requires-clause-left_within : goal.reunion-sum-requires-clause-left_within
 reunion-sum-requires-clause-left_within c =
@@ -37,11 +37,11 @@ pairs-preserved c =
       low_below = set_done (λ k v. v < 2 * q) c.pairs.low i c.reunion-sum.result.0 low_in inv.low_below made.sum_below;
       high_below = set_done (λ k v. v < 2 * q) c.pairs.high i c.reunion-sum.result.1 high_in inv.high_below made.difference_below;
       sums = set_done (λ k v. v % q ≡ (get_or old_low k 0 + get_or old_high k 0) % q) c.pairs.low i c.reunion-sum.result.0 low_in inv.sums
-        (made.sum ∙ ap (λ z. (z + get_or c.pairs.high i 0) % q) x ∙ ap (λ z. (get_or old_low i 0 + z) % q) y);
+          (made.sum ∙ ap (λ z. (z + get_or c.pairs.high i 0) % q) x ∙ ap (λ z. (get_or old_low i 0 + z) % q) y);
       differences = set_done (λ k v. v % q ≡ (w * (get_or old_low k 0 + (q - 1) * get_or old_high k 0)) % q) c.pairs.high i c.reunion-sum.result.1 high_in inv.differences
-        (made.difference ∙ ap (λ z. w * (z + (q - 1) * get_or c.pairs.high i 0) % q) x ∙ ap (λ z. w * (get_or old_low i 0 + (q - 1) * z) % q) y);
+          (made.difference ∙ ap (λ z. w * (z + (q - 1) * get_or c.pairs.high i 0) % q) x ∙ ap (λ z. w * (get_or old_low i 0 + (q - 1) * z) % q) y);
       low_rest = set_rest c.pairs.low old_low i c.reunion-sum.result.0 inv.low_rest;
-      high_rest = set_rest c.pairs.high old_high i c.reunion-sum.result.1 inv.high_rest
+      high_rest = set_rest c.pairs.high old_high i c.reunion-sum.result.1 inv.high_rest;
     }
 
 pub returns-clause-low_below : goal.returns-clause-low_below

@@ -1,4 +1,4 @@
-use Rattle.std.proofs.Common.{◌≡◌, ℕ, zero, suc, ◌+◌, ◌-◌, ◌*◌, ◌%◌, ◌<◌, List, [], ◌∷◌, get_or, sym, ◌∙◌, ap, arith}
+use Rattle.std.proofs.Common.{◌≡◌, ℕ, zero, suc, ◌+◌, ◌-◌, ◌*◌, ◌%◌, ◌<◌, [], ◌∷◌, get_or, sym, ◌∙◌, ap, arith}
 use Rattle.ring_ntt.specs.Nodes.{powers, undone}
 use Rattle.ring_ntt.proofs.Slots.{two_written, two_read}
 use Rattle.ring_ntt.proofs.Bases.{undone_two}
@@ -21,6 +21,6 @@ returns-clause-same c = λ i h.
     let y = get_or a 1 0 in
     ap (λ z. get_or z i 0 % q) (two_written a c.reunion-x.result.0 c.reunion-x.result.1 c.requires.count)
     ∙ both_same q c.reunion-x.result.0 c.reunion-x.result.1 (x + y) (get_or zs k 0 * (x + (q - 1) * y)) i h
-        c.reunion-x.ensures.sum
-        (c.reunion-x.ensures.difference ∙ ap (λ z. z * (x + (q - 1) * y) % q) c.factor.ensures.root)
+    c.reunion-x.ensures.sum
+    (c.reunion-x.ensures.difference ∙ ap (λ z. z * (x + (q - 1) * y) % q) c.factor.ensures.root)
     ∙ ap (λ z. z % q) (sym (undone_two q zs k x y i h) ∙ ap (λ z. undone q zs 1 k z i) (sym (two_read a c.requires.count)))

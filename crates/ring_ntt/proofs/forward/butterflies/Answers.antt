@@ -1,16 +1,16 @@
-use Rattle.std.proofs.Common.{◌≡◌, ℕ, ◌+◌, ◌-◌, ◌*◌, ◌%◌, ◌<◌, ◌≤◌, length, get_or, refl, sym, ◌∙◌, ap, subst, arith}
+use Rattle.std.proofs.Common.{◌≡◌, ◌+◌, ◌-◌, ◌*◌, ◌%◌, ◌<◌, length, get_or, refl, sym, ◌∙◌, ap, subst, arith}
 use Rattle.ring_ntt.proofs.Slots.{set_done, set_rest}
 use Rattle.ring_ntt.proofs.forward.butterflies.Goals as goal
 
 pub pairs-init : goal.pairs-init
 pairs-init c = record {
-    low_below = λ k h. absurd (omega (arith, h));
-    high_below = λ k h. absurd (omega (arith, h));
-    sums = λ k h. absurd (omega (arith, h));
-    differences = λ k h. absurd (omega (arith, h));
-    low_rest = λ k h. refl;
-    high_rest = λ k h. refl
-  }
+  low_below = λ k h. absurd (omega (arith, h));
+  high_below = λ k h. absurd (omega (arith, h));
+  sums = λ k h. absurd (omega (arith, h));
+  differences = λ k h. absurd (omega (arith, h));
+  low_rest = λ k h. refl;
+  high_rest = λ k h. refl;
+}
 
 pub butterfly-sum-requires-clause-within : goal.butterfly-sum-requires-clause-within
 butterfly-sum-requires-clause-within c =
@@ -33,11 +33,11 @@ pairs-preserved c =
       low_below = set_done (λ k v. v < 4 * q) c.pairs.low i c.butterfly-sum.result.0 low_in inv.low_below made.sum_below;
       high_below = set_done (λ k v. v < 4 * q) c.pairs.high i c.butterfly-sum.result.1 high_in inv.high_below made.difference_below;
       sums = set_done (λ k v. v % q ≡ (get_or old_low k 0 + w * get_or old_high k 0) % q) c.pairs.low i c.butterfly-sum.result.0 low_in inv.sums
-        (made.sum ∙ ap (λ z. (z + w * get_or c.pairs.high i 0) % q) x ∙ ap (λ z. (get_or old_low i 0 + w * z) % q) y);
+          (made.sum ∙ ap (λ z. (z + w * get_or c.pairs.high i 0) % q) x ∙ ap (λ z. (get_or old_low i 0 + w * z) % q) y);
       differences = set_done (λ k v. v % q ≡ (get_or old_low k 0 + (q - w) * get_or old_high k 0) % q) c.pairs.high i c.butterfly-sum.result.1 high_in inv.differences
-        (made.difference ∙ ap (λ z. (z + (q - w) * get_or c.pairs.high i 0) % q) x ∙ ap (λ z. (get_or old_low i 0 + (q - w) * z) % q) y);
+          (made.difference ∙ ap (λ z. (z + (q - w) * get_or c.pairs.high i 0) % q) x ∙ ap (λ z. (get_or old_low i 0 + (q - w) * z) % q) y);
       low_rest = set_rest c.pairs.low old_low i c.butterfly-sum.result.0 inv.low_rest;
-      high_rest = set_rest c.pairs.high old_high i c.butterfly-sum.result.1 inv.high_rest
+      high_rest = set_rest c.pairs.high old_high i c.butterfly-sum.result.1 inv.high_rest;
     }
 
 pub returns-clause-low_below : goal.returns-clause-low_below

@@ -1,4 +1,4 @@
-use Rattle.std.proofs.Common.{◌+◌, ◌-◌, ◌*◌, ◌%◌, ◌^◌, ◌≤◌, [], ◌∷◌, get_or, sym, ◌∙◌, ap, arith}
+use Rattle.std.proofs.Common.{◌+◌, ◌-◌, ◌*◌, ◌%◌, [], ◌∷◌, get_or, sym, ◌∙◌, ap, arith}
 use Rattle.ring_ntt.specs.Transform.{entry}
 use Rattle.ring_ntt.specs.Nodes.{powers}
 use Rattle.ring_ntt.proofs.Places.{few_places}
@@ -35,13 +35,13 @@ returns c =
     let v2 = get_or a 0 0 + (q - w) * get_or a 2 0 in
     let v3 = get_or a 1 0 + (q - w) * get_or a 3 0 in
     let r0 = c.reduced.ensures ∙ c.butterfly-y0.ensures.sum ∙ ap (λ z. (c.butterfly-x0.result.0 + z * c.butterfly-x1.result.0) % q) c.factor.ensures.root
-      ∙ step_same q w2 c.butterfly-x0.result.0 c.butterfly-x1.result.0 v0 v1 x0 x1 in
+    ∙ step_same q w2 c.butterfly-x0.result.0 c.butterfly-x1.result.0 v0 v1 x0 x1 in
     let r1 = c.reduced-2.ensures ∙ c.butterfly-y0.ensures.difference ∙ ap (λ z. (c.butterfly-x0.result.0 + (q - z) * c.butterfly-x1.result.0) % q) c.factor.ensures.root
-      ∙ step_same q (q - w2) c.butterfly-x0.result.0 c.butterfly-x1.result.0 v0 v1 x0 x1 in
+    ∙ step_same q (q - w2) c.butterfly-x0.result.0 c.butterfly-x1.result.0 v0 v1 x0 x1 in
     let r2 = c.reduced-3.ensures ∙ c.butterfly-y2.ensures.sum ∙ ap (λ z. (c.butterfly-x0.result.1 + z * c.butterfly-x1.result.1) % q) c.factor-2.ensures.root
-      ∙ step_same q w3 c.butterfly-x0.result.1 c.butterfly-x1.result.1 v2 v3 x2 x3 in
+    ∙ step_same q w3 c.butterfly-x0.result.1 c.butterfly-x1.result.1 v2 v3 x2 x3 in
     let r3 = c.reduced-4.ensures ∙ c.butterfly-y2.ensures.difference ∙ ap (λ z. (c.butterfly-x0.result.1 + (q - z) * c.butterfly-x1.result.1) % q) c.factor-2.ensures.root
-      ∙ step_same q (q - w3) c.butterfly-x0.result.1 c.butterfly-x1.result.1 v2 v3 x2 x3 in
+    ∙ step_same q (q - w3) c.butterfly-x0.result.1 c.butterfly-x1.result.1 v2 v3 x2 x3 in
     four_written a c.reduced.result c.reduced-2.result c.reduced-3.result c.reduced-4.result c.requires.count
     ∙ ap (λ z. z ∷ c.reduced-2.result ∷ c.reduced-3.result ∷ c.reduced-4.result ∷ []) r0
     ∙ ap (λ z. (v0 + w2 * v1) % q ∷ z ∷ c.reduced-3.result ∷ c.reduced-4.result ∷ []) r1

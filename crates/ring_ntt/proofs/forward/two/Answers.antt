@@ -15,5 +15,5 @@ returns c =
     two_written a c.reduced.result c.reduced-2.result c.requires.count
     ∙ ap (λ z. z ∷ c.reduced-2.result ∷ []) (c.reduced.ensures ∙ c.butterfly-x.ensures.sum ∙ ap (λ z. (get_or a 0 0 + z * get_or a 1 0) % q) w)
     ∙ ap (λ z. (get_or a 0 0 + get_or zs c.args.k 0 * get_or a 1 0) % q ∷ z ∷ [])
-        (c.reduced-2.ensures ∙ c.butterfly-x.ensures.difference ∙ ap (λ z. (get_or a 0 0 + (q - z) * get_or a 1 0) % q) w)
+    (c.reduced-2.ensures ∙ c.butterfly-x.ensures.difference ∙ ap (λ z. (get_or a 0 0 + (q - z) * get_or a 1 0) % q) w)
     ∙ sym (node_two q zs c.args.k (entry a))

@@ -1,4 +1,4 @@
-use Rattle.std.proofs.Common.{◌≡◌, ℕ, ◌*◌, ◌%◌, ◌<◌, length, get_or, refl, ◌∙◌, ap, arith}
+use Rattle.std.proofs.Common.{◌≡◌, ◌*◌, ◌%◌, ◌<◌, length, get_or, refl, ◌∙◌, ap, arith}
 use Rattle.ring_ntt.proofs.Slots.{set_done, set_rest}
 use Rattle.ring_ntt.proofs.tables.scale_down.Goals as goal
 
@@ -14,8 +14,8 @@ loop-x-preserved c =
     let here : i < length c.loop-x.a = omega arith in
     record {
       done = set_done (λ k v. v ≡ w * get_or old k 0 % q) c.loop-x.a i c.lowered.result here c.loop-x.invariant.done
-        (c.lowered.ensures ∙ c.scaled.ensures.same ∙ ap (λ z. w * z % q) (c.loop-x.invariant.rest i (omega arith)));
-      rest = set_rest c.loop-x.a old i c.lowered.result c.loop-x.invariant.rest
+          (c.lowered.ensures ∙ c.scaled.ensures.same ∙ ap (λ z. w * z % q) (c.loop-x.invariant.rest i (omega arith)));
+      rest = set_rest c.loop-x.a old i c.lowered.result c.loop-x.invariant.rest;
     }
 
 pub returns-clause-scaled : goal.returns-clause-scaled

@@ -1,4 +1,4 @@
-use Rattle.std.proofs.Common.{◌*◌, ◌%◌, ◌/◌, refl, ◌∙◌, ap}
+use Rattle.std.proofs.Common.{◌*◌, ◌%◌, refl, ◌∙◌, ap}
 use Rattle.ring_ntt.proofs.WordLaws.{word_halves}
 use Rattle.ring_ntt.proofs.tables.word_product.Goals as goal
 
@@ -8,4 +8,4 @@ returns c =
     let low = c.args.x * c.args.y % 18446744073709551616 in
     c.reduced.ensures
     ∙ word_halves q c.args.x c.args.y c.scaled.result c.scaled-2.result c.args.carry.root _ c.requires.carry.0 c.scaled.ensures.same
-        (c.scaled-2.ensures.same ∙ ap (λ z. z * low % q) c.requires.unit.0) refl
+    (c.scaled-2.ensures.same ∙ ap (λ z. z * low % q) c.requires.unit.0) refl

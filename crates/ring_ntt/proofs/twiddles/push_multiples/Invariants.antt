@@ -1,4 +1,4 @@
-use Rattle.std.proofs.Common.{◌≡◌, ◌++◌, length, map, take}
+use Rattle.std.proofs.Common.{◌≡◌, ◌++◌, map, take}
 use Rattle.ring_ntt.specs.Nodes.{multiple}
 use Rattle.ring_ntt.proofs.twiddles.push_multiples.Given as goal
 

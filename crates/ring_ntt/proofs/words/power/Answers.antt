@@ -1,4 +1,4 @@
-use Rattle.std.proofs.Common.{◌≡◌, ℕ, ◌*◌, ◌/◌, ◌%◌, ◌^◌, refl, sym, ◌∙◌, ap, arith}
+use Rattle.std.proofs.Common.{◌≡◌, ◌*◌, ◌/◌, ◌%◌, ◌^◌, sym, ◌∙◌, ap, arith}
 use Rattle.std.proofs.Math.Nat.{mod-eq_of_lt, pow-zero}
 use Rattle.std.proofs.lemmas.Nat.{pow-mod, mod_below}
 use Rattle.ring_ntt.proofs.Squarings.{even_step, odd_step}
@@ -7,10 +7,10 @@ use Rattle.ring_ntt.proofs.words.power.Goals.{then-rest-eq1, else-rest-eq1}
 
 pub squarings-init : goal.squarings-init
 squarings-init c = record {
-    reduced = c.requires;
-    same = ap (λ z. z % c.args.q) (let g : 1 * (c.args.base % c.args.q) ^ c.args.exponent ≡ (c.args.base % c.args.q) ^ c.args.exponent = omega arith in g)
-      ∙ pow-mod c.args.base c.args.exponent c.args.q
-  }
+  reduced = c.requires;
+  same = ap (λ z. z % c.args.q) (let g : 1 * (c.args.base % c.args.q) ^ c.args.exponent ≡ (c.args.base % c.args.q) ^ c.args.exponent = omega arith in g)
+      ∙ pow-mod c.args.base c.args.exponent c.args.q;
+}
 
 pub squarings-preserved : goal.squarings-preserved
 squarings-preserved c =
@@ -19,15 +19,15 @@ squarings-preserved c =
     let s = c.squarings.square in
     let r = c.squarings.rest in
     elim c.if-rest-eq1.branch [
-      then-rest-eq1 w ↦ record {
+      | then-rest-eq1 w ↦ record {
         reduced = rw (w.made-is, w.product-made.ensures) (mod_below (m * s) q (omega arith));
         same = rw (w.made-is, w.product-made.ensures, c.product-square.ensures)
-          (odd_step q m s r (r / 2) (omega (arith, w.if-rest-eq1.true)) ∙ c.squarings.invariant.same)
+            (odd_step q m s r (r / 2) (omega (arith, w.if-rest-eq1.true)) ∙ c.squarings.invariant.same);
       }
-    | else-rest-eq1 w ↦ record {
+      | else-rest-eq1 w ↦ record {
         reduced = rw w.made-is c.squarings.invariant.reduced;
         same = rw (w.made-is, c.product-square.ensures)
-          (even_step q m s r (r / 2) (omega (arith, w.if-rest-eq1.false)) ∙ c.squarings.invariant.same)
+            (even_step q m s r (r / 2) (omega (arith, w.if-rest-eq1.false)) ∙ c.squarings.invariant.same);
       }
     ]
 

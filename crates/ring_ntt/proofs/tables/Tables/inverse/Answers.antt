@@ -1,4 +1,4 @@
-use Rattle.std.proofs.Common.{◌≡◌, ℕ, ◌*◌, ◌%◌, ◌^◌, ◌-◌, ◌<◌, ◌≤◌, List, length, sym, ◌∙◌, ap, subst, arith}
+use Rattle.std.proofs.Common.{◌%◌, ◌^◌, sym, ◌∙◌, ap, subst, arith}
 use Rattle.ring_spec.specs.Ring.{IsPoly}
 use Rattle.ring_ntt.proofs.Laws.{IsReady, IsBack, is_back, back-undoes, back-undone}
 use Rattle.ring_ntt.proofs.tables.Tables.inverse.Goals as goal
@@ -11,11 +11,11 @@ returns-clause-undoes c = λ f p e.
       some_level = t.some_level;
       root = ap (λ z. t.root ^ z % t.modulus) (sym t.whole) ∙ t.is_root;
       inverse = t.back_is.2;
-      scaled = t.scale_is.0
+      scaled = t.scale_is.0;
     } in
     let back : IsBack t.modulus t.levels t.root t.back.base t.scale.root c.args.a.now c.scale_down.new.a =
-      is_back t.modulus t.levels t.root t.back.base t.scale.root t.back.modulus t.back.levels c.args.a.now c.whole.new.a c.scale_down.new.a
-        (omega (arith, t.at_least_three)) t.back_is.0 t.back_is.1 c.whole.ensures.length c.scale_down.ensures.length c.whole.ensures.same c.scale_down.ensures.scaled in
+    is_back t.modulus t.levels t.root t.back.base t.scale.root t.back.modulus t.back.levels c.args.a.now c.whole.new.a c.scale_down.new.a
+    (omega (arith, t.at_least_three)) t.back_is.0 t.back_is.1 c.whole.ensures.length c.scale_down.ensures.length c.whole.ensures.same c.scale_down.ensures.scaled in
     back-undoes t.modulus t.levels t.root t.back.base t.scale.root c.args.a.now c.scale_down.new.a f ready back (subst (λ z. IsPoly t.modulus z f) t.whole p) e
 
 pub returns-clause-undone : goal.returns-clause-undone
@@ -26,17 +26,17 @@ returns-clause-undone c =
       some_level = t.some_level;
       root = ap (λ z. t.root ^ z % t.modulus) (sym t.whole) ∙ t.is_root;
       inverse = t.back_is.2;
-      scaled = t.scale_is.0
+      scaled = t.scale_is.0;
     } in
     let back : IsBack t.modulus t.levels t.root t.back.base t.scale.root c.args.a.now c.scale_down.new.a =
-      is_back t.modulus t.levels t.root t.back.base t.scale.root t.back.modulus t.back.levels c.args.a.now c.whole.new.a c.scale_down.new.a
-        (omega (arith, t.at_least_three)) t.back_is.0 t.back_is.1 c.whole.ensures.length c.scale_down.ensures.length c.whole.ensures.same c.scale_down.ensures.scaled in
+    is_back t.modulus t.levels t.root t.back.base t.scale.root t.back.modulus t.back.levels c.args.a.now c.whole.new.a c.scale_down.new.a
+    (omega (arith, t.at_least_three)) t.back_is.0 t.back_is.1 c.whole.ensures.length c.scale_down.ensures.length c.whole.ensures.same c.scale_down.ensures.scaled in
     back-undone t.modulus t.levels t.root t.back.base t.scale.root c.args.a.now c.scale_down.new.a ready back (subst (λ z. IsPoly t.modulus z c.args.a.now) t.whole c.requires)
 
 pub returns-clause-residues : goal.returns-clause-residues
 returns-clause-residues c =
     let t = c.args.self.now in
     let back : IsBack t.modulus t.levels t.root t.back.base t.scale.root c.args.a.now c.scale_down.new.a =
-      is_back t.modulus t.levels t.root t.back.base t.scale.root t.back.modulus t.back.levels c.args.a.now c.whole.new.a c.scale_down.new.a
-        (omega (arith, t.at_least_three)) t.back_is.0 t.back_is.1 c.whole.ensures.length c.scale_down.ensures.length c.whole.ensures.same c.scale_down.ensures.scaled in
+    is_back t.modulus t.levels t.root t.back.base t.scale.root t.back.modulus t.back.levels c.args.a.now c.whole.new.a c.scale_down.new.a
+    (omega (arith, t.at_least_three)) t.back_is.0 t.back_is.1 c.whole.ensures.length c.scale_down.ensures.length c.whole.ensures.same c.scale_down.ensures.scaled in
     subst (λ z. IsPoly t.modulus z c.scale_down.new.a) (sym t.whole) back.poly

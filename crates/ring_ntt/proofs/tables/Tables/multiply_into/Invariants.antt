@@ -3,6 +3,6 @@ use Rattle.ring_ntt.proofs.tables.Tables.multiply_into.Given as goal
 
 abbrev pub invariant-entries : goal.invariant-entries
 invariant-entries l = record {
-    done : (k : ℕ) → k < l.i → get_or l.a k 0 ≡ get_or l.initial.a k 0 * get_or l.b k 0 % l.self.modulus;
-    rest : (k : ℕ) → l.i ≤ k → get_or l.a k 0 ≡ get_or l.initial.a k 0
-  }
+  done : (k : ℕ) → k < l.i → get_or l.a k 0 ≡ get_or l.initial.a k 0 * get_or l.b k 0 % l.self.modulus;
+  rest : (k : ℕ) → l.i ≤ k → get_or l.a k 0 ≡ get_or l.initial.a k 0;
+}

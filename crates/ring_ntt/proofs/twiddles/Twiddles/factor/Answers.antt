@@ -1,4 +1,4 @@
-use Rattle.std.proofs.Common.{◌≡◌, ℕ, ◌<◌, ◌^◌, ◌%◌, length, get_or, map, sym, ◌∙◌, ap, subst, arith}
+use Rattle.std.proofs.Common.{◌<◌, ◌^◌, length, get_or, sym, ◌∙◌, ap, subst, arith}
 use Rattle.std.proofs.lemmas.Nat.{mod_below}
 use Rattle.std.proofs.lemmas.List.{length-map, get_or-map, get_or_read}
 use Rattle.ring_ntt.specs.Words.{quotient_of}
@@ -31,7 +31,7 @@ returns-clause-residue c =
     let q = t.modulus in
     let n = ap length t.in_order ∙ length-powers q t.levels t.base t.above_one in
     let read = get_or_read t.roots.items c.args.k c.index.result.now (omega (arith, n, c.requires)) c.index.ensures 0
-      ∙ ap (λ z. get_or z c.args.k 0) t.in_order ∙ powers_at q t.levels t.base c.args.k t.above_one c.requires in
+    ∙ ap (λ z. get_or z c.args.k 0) t.in_order ∙ powers_at q t.levels t.base c.args.k t.above_one c.requires in
     subst (λ z. z < q) (sym read) (mod_below (t.base ^ reversed t.levels c.args.k) q (omega (arith, t.above_one)))
 
 pub returns-clause-precomputed : goal.returns-clause-precomputed

@@ -1,4 +1,4 @@
-use Rattle.std.proofs.Common.{◌≡◌, ◌<◌, length, get_or, sym, ◌∙◌, ap, subst, arith}
+use Rattle.std.proofs.Common.{◌≡◌, ◌<◌, length, get_or, sym, ◌∙◌, subst}
 use Rattle.ring_ntt.specs.Nodes.{powers}
 use Rattle.ring_ntt.proofs.Reversal.{powers_below}
 use Rattle.ring_ntt.proofs.twiddles.Twiddles.new.Goals as goal
