@@ -40,7 +40,8 @@ fn reunions(low: &mut [u64], high: &mut [u64], w: Factor, q: u64)
     ensures sums { (k : ℕ) → k < length low.old →
         get_or low.new k 0 % q ≡ (get_or low.old k 0 + get_or high.old k 0) % q }
     ensures differences { (k : ℕ) → k < length low.old →
-        get_or high.new k 0 % q ≡ (w.root * (get_or low.old k 0 + (q - 1) * get_or high.old k 0)) % q }
+        get_or high.new k 0 % q
+        ≡ (w.root * (get_or low.old k 0 + (q - 1) * get_or high.old k 0)) % q }
 {
     'pairs: for i in 0..low.len() {
         let (sum, difference) = reunion(low[i], high[i], w, q);
@@ -56,7 +57,9 @@ fn two(table: &Twiddles, a: &mut [u64], k: usize)
     requires within { (i : ℕ) → i < 2 → get_or a.old i 0 < 2 * table.now.modulus }
     ensures length { length a.new ≡ 2 }
     ensures below { (i : ℕ) → i < 2 → get_or a.new i 0 < 2 * table.now.modulus }
-    ensures same { (i : ℕ) → i < 2 → get_or a.new i 0 % table.now.modulus ≡ undone table.now.modulus (powers table.now.modulus table.now.levels table.now.base) 1 k a.old i % table.now.modulus }
+    ensures same { let t = table.now in
+        (i : ℕ) → i < 2 → get_or a.new i 0 % t.modulus
+        ≡ undone t.modulus (powers t.modulus t.levels t.base) 1 k a.old i % t.modulus }
 {
     let (x, y) = reunion(a[0], a[1], table.factor(k), table.modulus);
     a[0] = x;
@@ -71,7 +74,9 @@ fn four(table: &Twiddles, a: &mut [u64], k: usize)
     requires within { (i : ℕ) → i < 4 → get_or a.old i 0 < 2 * table.now.modulus }
     ensures length { length a.new ≡ 4 }
     ensures below { (i : ℕ) → i < 4 → get_or a.new i 0 < 2 * table.now.modulus }
-    ensures same { (i : ℕ) → i < 4 → get_or a.new i 0 % table.now.modulus ≡ undone table.now.modulus (powers table.now.modulus table.now.levels table.now.base) 2 k a.old i % table.now.modulus }
+    ensures same { let t = table.now in
+        (i : ℕ) → i < 4 → get_or a.new i 0 % t.modulus
+        ≡ undone t.modulus (powers t.modulus t.levels t.base) 2 k a.old i % t.modulus }
 {
     let q = table.modulus;
     let (x0, x1) = reunion(a[0], a[1], table.factor(2 * k), q);
@@ -93,7 +98,9 @@ fn block(table: &Twiddles, a: &mut [u64], k: usize, depth: u32)
     requires within { (i : ℕ) → i < 2 ^ depth → get_or a.old i 0 < 2 * table.now.modulus }
     ensures length { length a.new ≡ 2 ^ depth }
     ensures below { (i : ℕ) → i < 2 ^ depth → get_or a.new i 0 < 2 * table.now.modulus }
-    ensures same { (i : ℕ) → i < 2 ^ depth → get_or a.new i 0 % table.now.modulus ≡ undone table.now.modulus (powers table.now.modulus table.now.levels table.now.base) depth k a.old i % table.now.modulus }
+    ensures same { let t = table.now in
+        (i : ℕ) → i < 2 ^ depth → get_or a.new i 0 % t.modulus
+        ≡ undone t.modulus (powers t.modulus t.levels t.base) depth k a.old i % t.modulus }
 {
     if depth == 2 {
         four(table, a, k);
@@ -109,10 +116,13 @@ fn block(table: &Twiddles, a: &mut [u64], k: usize, depth: u32)
 pub(crate) fn whole(table: &Twiddles, a: &mut [u64])
     requires some_level { 1 ≤ table.now.levels }
     requires count { length a.old ≡ 2 ^ table.now.levels }
-    requires within { (i : ℕ) → i < 2 ^ table.now.levels → get_or a.old i 0 < 2 * table.now.modulus }
+    requires within { let t = table.now in
+        (i : ℕ) → i < 2 ^ t.levels → get_or a.old i 0 < 2 * t.modulus }
     ensures length { length a.new ≡ 2 ^ table.now.levels }
     ensures below { (i : ℕ) → i < 2 ^ table.now.levels → get_or a.new i 0 < 2 * table.now.modulus }
-    ensures same { (i : ℕ) → i < 2 ^ table.now.levels → get_or a.new i 0 % table.now.modulus ≡ undone table.now.modulus (powers table.now.modulus table.now.levels table.now.base) table.now.levels 1 a.old i % table.now.modulus }
+    ensures same { let t = table.now in
+        (i : ℕ) → i < 2 ^ t.levels → get_or a.new i 0 % t.modulus
+        ≡ undone t.modulus (powers t.modulus t.levels t.base) t.levels 1 a.old i % t.modulus }
 {
     if table.levels == 1 {
         two(table, a, 1);

@@ -55,7 +55,8 @@ fn two(table: &Twiddles, a: &mut [u64], k: usize)
     requires count { length a.old ≡ 2 }
     requires place { k < 2 ^ table.now.levels }
     requires within { (i : ℕ) → i < 2 → get_or a.old i 0 < 4 * table.now.modulus }
-    ensures { a.new ≡ node table.now.modulus (powers table.now.modulus table.now.levels table.now.base) 1 k (entry a.old) }
+    ensures { let t = table.now in
+        a.new ≡ node t.modulus (powers t.modulus t.levels t.base) 1 k (entry a.old) }
 {
     let q = table.modulus;
     let (x, y) = butterfly(a[0], a[1], table.factor(k), q);
@@ -69,7 +70,8 @@ fn four(table: &Twiddles, a: &mut [u64], k: usize)
     requires count { length a.old ≡ 4 }
     requires place { 2 * k + 1 < 2 ^ table.now.levels }
     requires within { (i : ℕ) → i < 4 → get_or a.old i 0 < 4 * table.now.modulus }
-    ensures { a.new ≡ node table.now.modulus (powers table.now.modulus table.now.levels table.now.base) 2 k (entry a.old) }
+    ensures { let t = table.now in
+        a.new ≡ node t.modulus (powers t.modulus t.levels t.base) 2 k (entry a.old) }
 {
     let q = table.modulus;
     let upper = table.factor(k);
@@ -89,7 +91,8 @@ fn block(table: &Twiddles, a: &mut [u64], k: usize, depth: u32)
     requires count { length a.old ≡ 2 ^ depth }
     requires place { (k + 1) * 2 ^ depth ≤ 2 * 2 ^ table.now.levels }
     requires within { (i : ℕ) → i < 2 ^ depth → get_or a.old i 0 < 4 * table.now.modulus }
-    ensures { a.new ≡ node table.now.modulus (powers table.now.modulus table.now.levels table.now.base) depth k (entry a.old) }
+    ensures { let t = table.now in
+        a.new ≡ node t.modulus (powers t.modulus t.levels t.base) depth k (entry a.old) }
 {
     if depth == 2 {
         four(table, a, k);
@@ -105,8 +108,10 @@ fn block(table: &Twiddles, a: &mut [u64], k: usize, depth: u32)
 pub(crate) fn whole(table: &Twiddles, a: &mut [u64])
     requires some_level { 1 ≤ table.now.levels }
     requires count { length a.old ≡ 2 ^ table.now.levels }
-    requires within { (i : ℕ) → i < 2 ^ table.now.levels → get_or a.old i 0 < 4 * table.now.modulus }
-    ensures { a.new ≡ node table.now.modulus (powers table.now.modulus table.now.levels table.now.base) table.now.levels 1 (entry a.old) }
+    requires within { let t = table.now in
+        (i : ℕ) → i < 2 ^ t.levels → get_or a.old i 0 < 4 * t.modulus }
+    ensures { let t = table.now in
+        a.new ≡ node t.modulus (powers t.modulus t.levels t.base) t.levels 1 (entry a.old) }
 {
     if table.levels == 1 {
         two(table, a, 1);

@@ -35,10 +35,14 @@ pub struct Tables {
     ghost few_levels: { levels ≤ 12 },
     ghost whole: { length ≡ 2 ^ levels },
     ghost is_root: { root ^ length % modulus ≡ modulus - 1 },
-    ghost onward_is: { (onward.modulus ≡ modulus) × (onward.levels ≡ levels) × (onward.base ≡ root) },
-    ghost back_is: { (back.modulus ≡ modulus) × (back.levels ≡ levels) × (root * back.base % modulus ≡ 1) },
-    ghost scale_is: { (scale.root * 2 ^ levels % modulus ≡ 1) × (scale.quotient ≡ quotient_of modulus scale.root) },
-    ghost carry_is: { (carry.root ≡ 2 ^ 64 % modulus) × (carry.quotient ≡ quotient_of modulus carry.root) },
+    ghost onward_is: { (onward.modulus ≡ modulus) × (onward.levels ≡ levels)
+        × (onward.base ≡ root) },
+    ghost back_is: { (back.modulus ≡ modulus) × (back.levels ≡ levels)
+        × (root * back.base % modulus ≡ 1) },
+    ghost scale_is: { (scale.root * 2 ^ levels % modulus ≡ 1)
+        × (scale.quotient ≡ quotient_of modulus scale.root) },
+    ghost carry_is: { (carry.root ≡ 2 ^ 64 % modulus)
+        × (carry.quotient ≡ quotient_of modulus carry.root) },
     ghost unit_is: { (unit.root ≡ 1) × (unit.quotient ≡ quotient_of modulus 1) },
 }
 
@@ -78,7 +82,7 @@ impl Tables {
     /// Takes a polynomial to its values at the odd powers of psi, in place.
     pub fn forward(&self, a: &mut [u64])
         requires { IsPoly self.now.modulus self.now.length a.old }
-        ensures values { a.new ≡ transform self.now.modulus self.now.root self.now.levels a.old }
+        ensures values { let t = self.now in a.new ≡ transform t.modulus t.root t.levels a.old }
         ensures residues { IsPoly self.now.modulus self.now.length a.new }
     {
         forward::whole(&self.onward, a);
@@ -87,9 +91,10 @@ impl Tables {
     /// Takes values back to the polynomial that has them, in place.
     pub fn inverse(&self, a: &mut [u64])
         requires { IsPoly self.now.modulus self.now.length a.old }
-        ensures undoes { (f : List ℕ) → IsPoly self.now.modulus self.now.length f →
-            a.old ≡ transform self.now.modulus self.now.root self.now.levels f → a.new ≡ f }
-        ensures undone { transform self.now.modulus self.now.root self.now.levels a.new ≡ a.old }
+        ensures undoes { let t = self.now in
+            (f : List ℕ) → IsPoly t.modulus t.length f →
+            a.old ≡ transform t.modulus t.root t.levels f → a.new ≡ f }
+        ensures undone { let t = self.now in transform t.modulus t.root t.levels a.new ≡ a.old }
         ensures residues { IsPoly self.now.modulus self.now.length a.new }
     {
         backward::whole(&self.back, a);
@@ -102,11 +107,12 @@ impl Tables {
         requires right { IsPoly self.now.modulus self.now.length b.now }
         ensures values { a.new ≡ entrywise self.now.modulus self.now.length a.old b.now }
         ensures residues { IsPoly self.now.modulus self.now.length a.new }
-        ensures product { (f g : List ℕ) → IsPoly self.now.modulus self.now.length f → IsPoly self.now.modulus self.now.length g →
-            a.old ≡ transform self.now.modulus self.now.root self.now.levels f →
-            b.now ≡ transform self.now.modulus self.now.root self.now.levels g →
-            IsPoly self.now.modulus self.now.length (ring_product self.now.modulus self.now.length f g)
-            × (a.new ≡ transform self.now.modulus self.now.root self.now.levels (ring_product self.now.modulus self.now.length f g)) }
+        ensures product { let t = self.now in
+            (f g : List ℕ) → IsPoly t.modulus t.length f → IsPoly t.modulus t.length g →
+            a.old ≡ transform t.modulus t.root t.levels f →
+            b.now ≡ transform t.modulus t.root t.levels g →
+            IsPoly t.modulus t.length (ring_product t.modulus t.length f g)
+            × (a.new ≡ transform t.modulus t.root t.levels (ring_product t.modulus t.length f g)) }
     {
         'entries: for i in 0..a.len() {
             a[i] = word_product(a[i], b[i], self.carry, self.unit, self.modulus);
@@ -162,7 +168,8 @@ fn scale_down(a: &mut [u64], scale: Factor, q: u64)
     requires small { q ≤ 2 ^ 62 }
     requires precomputed { scale.quotient ≡ quotient_of q scale.root }
     ensures length { length a.new ≡ length a.old }
-    ensures scaled { (k : ℕ) → k < length a.old → get_or a.new k 0 ≡ scale.root * get_or a.old k 0 % q }
+    ensures scaled { (k : ℕ) → k < length a.old →
+        get_or a.new k 0 ≡ scale.root * get_or a.old k 0 % q }
 {
     for x in a.iter_mut() {
         *x = lowered(scaled(*x, scale.root, scale.quotient, q), q);

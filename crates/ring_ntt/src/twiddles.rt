@@ -56,7 +56,8 @@ impl Twiddles {
     #[inline]
     pub(crate) fn factor(&self, k: usize) -> Factor
         requires { k < 2 ^ self.now.levels }
-        ensures root { result.root ≡ get_or (powers self.now.modulus self.now.levels self.now.base) k 0 }
+        ensures root { let t = self.now in
+            result.root ≡ get_or (powers t.modulus t.levels t.base) k 0 }
         ensures residue { result.root < self.now.modulus }
         ensures precomputed { result.quotient ≡ quotient_of self.now.modulus result.root }
     {
