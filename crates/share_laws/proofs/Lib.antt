@@ -1,0 +1,6 @@
+pub mod Over
+pub mod Interpolation
+pub mod Quotients
+pub mod Points
+pub mod Shares
+pub mod Instances
