@@ -1,0 +1,85 @@
+ghost use Rattle.std.specs.Prelude.{◌≡◌, ℕ, ◌≤◌, ◌↔◌, take, IfSome, IsSome};
+ghost use Rattle.share_spec.specs.Sets.{has as is_member, members, count as number_of};
+
+/// A set of the parties 1 to 32: bit p - 1 stands for party p.
+#[derive(Clone, Copy, Debug, PartialEq, Eq)]
+pub struct PartySet {
+    pub bits: u32,
+}
+
+impl PartySet {
+    /// Whether party p is in the set, which only the parties 1 to 32 can be.
+    #[tactic(auto, unfolding(share_spec::specs::Sets::has))]
+    pub fn has(&self, p: u32) -> bool
+        ensures { result ≡ is_member self.now.bits p }
+    {
+        1 <= p && p <= 32 && (self.bits >> (p - 1)) % 2 == 1
+    }
+
+    /// How many parties are in the set.
+    #[tactic(auto, using(crate::proofs::Members::one_by_one))]
+    pub fn count(&self) -> u32
+        ensures { result ≡ number_of self.now.bits }
+    {
+        let mut count = 0;
+        for place in 0..32u32 {
+            if self.has(place + 1) {
+                count += 1;
+            }
+        }
+        count
+    }
+
+    /// The k least members, and None where the set has fewer.
+    #[tactic(auto, using(crate::proofs::Members::one_by_one))]
+    pub fn least(&self, k: u32) -> Option<PartySet>
+        ensures members { IfSome result (λ some. members some.bits ≡ take k (members self.now.bits)) }
+        ensures enough { IsSome result ↔ (k ≤ number_of self.now.bits) }
+    {
+        let mut bits = 0u32;
+        let mut taken = 0u32;
+        for place in 0..32u32 {
+            if taken < k && self.has(place + 1) {
+                bits |= 1 << place;
+                taken += 1;
+            }
+        }
+        if taken == k {
+            Some(PartySet { bits })
+        } else {
+            None
+        }
+    }
+}
+
+#[cfg(test)]
+mod tests {
+    use super::*;
+
+    #[test]
+    fn members_from_the_lowest_bit_on(rt: HostRuntime) {
+        let set = PartySet { bits: 0x8000_0015 };
+        for (p, want) in [
+            (0, false),
+            (1, true),
+            (2, false),
+            (3, true),
+            (5, true),
+            (31, false),
+            (32, true),
+            (33, false),
+        ] {
+            assert_eq!(rt; set.has(p), want, "party {p}");
+        }
+        assert_eq!(rt; set.count(), 4);
+        for (k, want) in [
+            (0, Some(0)),
+            (1, Some(1)),
+            (2, Some(5)),
+            (4, Some(0x8000_0015)),
+            (5, None),
+        ] {
+            assert_eq!(rt; set.least(k).map(|some| some.bits), want, "the {k} least");
+        }
+    }
+}
