@@ -88,13 +88,13 @@ first_found p (suc n) a k l m h = elim (cases_Bool (p a)) [
 ]
 
 -- numbers with the same rest agree, and the other way round
-same_rest : (q x y : ℕ) → 0 < q → x % q ≡ y % q → IsCongruent q (pos x) (pos y)
+pub same_rest : (q x y : ℕ) → 0 < q → x % q ≡ y % q → IsCongruent q (pos x) (pos y)
 unfolding residue
 same_rest q x y h e =
     congruent_chain (congruent_back (residue_congruent q (pos x) h))
     (congruent_chain (congruent_equal q (pos (residue q (pos x))) (pos (residue q (pos y))) (ap pos e)) (residue_congruent q (pos y) h))
 
-rest_same : (q x y : ℕ) → 0 < q → IsCongruent q (pos x) (pos y) → x % q ≡ y % q
+pub rest_same : (q x y : ℕ) → 0 < q → IsCongruent q (pos x) (pos y) → x % q ≡ y % q
 unfolding residue
 rest_same q x y h c = residue_same q (pos x) (pos y) h c
 

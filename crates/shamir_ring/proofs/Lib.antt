@@ -1,0 +1,4 @@
+pub mod Horner
+pub mod Draws
+pub mod Quotient
+pub mod Sums
