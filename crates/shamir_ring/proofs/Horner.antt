@@ -2,7 +2,7 @@
 use Rattle.std.proofs.Common.{◌≡◌, ℕ, zero, suc, ◌+◌, ◌-◌, ◌*◌, ◌%◌, ◌<◌, ◌≤◌, List, [], ◌∷◌, length, get_or, drop, replicate, map, refl, sym, ap, subst, ◌∙◌, arith}
 use Rattle.std.specs.Prelude.{ℤ, pos, ◌+ℤ◌, ◌*ℤ◌}
 use Rattle.std.specs.List.{range_with_len}
-use Rattle.std.proofs.lemmas.List.{ext_get_or, get_or-replicate, length-replicate}
+use Rattle.std.proofs.lemmas.List.{ext_get_or, get_or-replicate, length-replicate, drop_all}
 use Rattle.std.proofs.lemmas.List.FromFn.{length-map-range_with_len, get_or-map-range_with_len}
 use Rattle.std.proofs.Math.Seq.{drop-cons}
 use Rattle.std.proofs.Math.Nat.{add-mod-mod, mod-eq_of_lt}
@@ -75,6 +75,16 @@ value_step q n p fs k was now f h l e g s =
     ∙ value_more q n p (get_or fs i []) (drop (suc i) fs) h
     ∙ ap (λ (xs : List (List ℕ)). value_at q n xs p) (sym (drop-cons fs i [] (omega arith)))
     ∙ ap (λ (x : ℕ). value_at q n (drop x fs) p) (sym here)
+
+-- a value is a polynomial of the ring
+pub value_poly : (q n : ℕ) (fs : List (List ℕ)) (p : ℕ) (v : List ℕ) → 0 < q → v ≡ value_at q n fs p → IsPoly q n v
+unfolding value_at
+value_poly q n fs p v h e = subst (IsPoly q n) (sym e) (residues_poly q n (λ i. total (length fs) (power fs p i)) h)
+
+-- before the first step
+pub value_start : (q n p k : ℕ) (fs : List (List ℕ)) (v : List ℕ) → 0 < q → v ≡ replicate n 0 → length fs ≤ k → v ≡ value_at q n (drop k fs) p
+value_start q n p k fs v h e l =
+    e ∙ value_none q n p h ∙ ap (λ (xs : List (List ℕ)). value_at q n xs p) (sym (drop_all k fs l))
 
 -- for the tactics
 pub ruleset one_by_one = (value_none, value_step)

@@ -11,9 +11,9 @@ loop-f-init c =
 pub loop-f-preserved : goal.loop-f-preserved
 loop-f-preserved c =
     let p = c.args.ring.now.params in
-    let read : c.f-item.result.now ≡ get_or c.args.dealt.now c.loop-f.f-index c.f-item.result.now = search rules in
+    let read : c.f-item.result ≡ get_or c.args.dealt.now c.loop-f.f-index c.f-item.result = search rules in
     record {
       fits = c.add_into.ensures.fits;
-      sum = total_more p.q p.n c.args.dealt.now c.loop-f.f-index c.loop-f.sum c.f-item.result.now c.add_into.new.acc (omega arith) (omega arith) c.requires
+      sum = total_more p.q p.n c.args.dealt.now c.loop-f.f-index c.loop-f.sum c.f-item.result c.add_into.new.acc (omega arith) (omega arith) c.requires
           c.loop-f.invariant.sum read c.add_into.ensures.value;
     }
