@@ -15,3 +15,6 @@ mod values;
 pub use dealing::Dealing;
 pub use parts::{additive, combine, reconstruct};
 pub use ratios::lagrange;
+
+#[cfg(test)]
+mod tests;

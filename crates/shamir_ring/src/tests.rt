@@ -1,0 +1,67 @@
+use super::*;
+use mod_ring::{Poly, Ring};
+use param_set::Params;
+use proto_names::PartySet;
+use std::alloc::{AllocError, Global};
+
+ghost use Rattle.std.specs.Prelude.{◌≡◌, ◌<◌, ◌≤◌, All, IfOk, length};
+ghost use Rattle.ring_spec.specs.Ring.{IsPoly};
+
+/// The sum of three polynomials.
+fn sum_of(alloc: Global, ring: &Ring, first: Poly, second: Poly, third: Poly) -> Result<Poly, AllocError>
+    requires first { IsPoly ring.now.params.q ring.now.params.n first }
+    requires second { IsPoly ring.now.params.q ring.now.params.n second }
+    requires third { IsPoly ring.now.params.q ring.now.params.n third }
+    ensures { IfOk result (λ f. IsPoly ring.now.params.q ring.now.params.n f) }
+{
+    combine(alloc, ring, &[first, second, third])
+}
+
+/// What two parties of a set make of their shares.
+fn together(alloc: Global, ring: &Ring, set: PartySet, first: (u32, &Poly), second: (u32, &Poly)) -> Result<Poly, AllocError>
+    requires first { IsPoly ring.now.params.q ring.now.params.n first.1.now }
+    requires second { IsPoly ring.now.params.q ring.now.params.n second.1.now }
+{
+    let one = additive(alloc, ring, first.1, set, first.0)?;
+    let other = additive(alloc, ring, second.1, set, second.0)?;
+    reconstruct(alloc, ring, &[one, other])
+}
+
+#[test]
+fn any_two_of_three_have_the_secret(rt: HostRuntime) -> Result<(), AllocError> {
+    let alloc = rt.alloc();
+    let ring = Ring::new(alloc, &Params::frame(3, 2))?;
+    let a = Dealing::new(alloc, &ring, [1; 32])?;
+    let b = Dealing::new(alloc, &ring, [2; 32])?;
+    let c = Dealing::new(alloc, &ring, [3; 32])?;
+    let one = sum_of(alloc, &ring, a.at(alloc, &ring, 1)?, b.at(alloc, &ring, 1)?, c.at(alloc, &ring, 1)?)?;
+    let two = sum_of(alloc, &ring, a.at(alloc, &ring, 2)?, b.at(alloc, &ring, 2)?, c.at(alloc, &ring, 2)?)?;
+    let three = sum_of(alloc, &ring, a.at(alloc, &ring, 3)?, b.at(alloc, &ring, 3)?, c.at(alloc, &ring, 3)?)?;
+    let secret = together(alloc, &ring, PartySet { bits: 3 }, (1, &one), (2, &two))?;
+    let same = together(alloc, &ring, PartySet { bits: 5 }, (1, &one), (3, &three))?;
+    let again = together(alloc, &ring, PartySet { bits: 6 }, (3, &three), (2, &two))?;
+    assert_eq!(rt; same.coeffs(), secret.coeffs());
+    assert_eq!(rt; again.coeffs(), secret.coeffs());
+    let q = ring.params().q();
+    for x in secret.coeffs() {
+        assert!(rt; *x <= 3 || q - 3 <= *x, "{x} is more than three parts");
+    }
+    Ok(())
+}
+
+#[test]
+fn coefficients_of_two_parties(rt: HostRuntime) -> Result<(), AllocError> {
+    let ring = Ring::new(rt.alloc(), &Params::frame(3, 2))?;
+    for (bits, j, want) in [
+        (3, 1, 2),
+        (3, 2, 31_525_197_391_593_472),
+        (5, 1, 15_762_598_695_796_738),
+        (5, 3, 15_762_598_695_796_736),
+        (5, 2, 0),
+        (5, 0, 0),
+        (1, 1, 1),
+    ] {
+        assert_eq!(rt; lagrange(ring.params().q(), PartySet { bits }, j), want, "party {j} of the set {bits}");
+    }
+    Ok(())
+}
