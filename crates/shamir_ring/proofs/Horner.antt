@@ -1,5 +1,5 @@
 -- The value of a dealing at a point, by Horner's rule.
-use Rattle.std.proofs.Common.{◌≡◌, ℕ, zero, suc, ◌+◌, ◌-◌, ◌*◌, ◌%◌, ◌<◌, ◌≤◌, List, [], ◌∷◌, length, get_or, drop, replicate, map, refl, sym, ap, subst, ◌∙◌, arith}
+use Rattle.std.proofs.Common.{◌≡◌, ℕ, suc, ◌+◌, ◌-◌, ◌*◌, ◌%◌, ◌<◌, ◌≤◌, List, [], ◌∷◌, length, get_or, drop, replicate, map, sym, ap, subst, ◌∙◌, arith}
 use Rattle.std.specs.Prelude.{ℤ, pos, ◌+ℤ◌, ◌*ℤ◌}
 use Rattle.std.specs.List.{range_with_len}
 use Rattle.std.proofs.lemmas.List.{ext_get_or, get_or-replicate, length-replicate, drop_all}
@@ -7,14 +7,12 @@ use Rattle.std.proofs.lemmas.List.FromFn.{length-map-range_with_len, get_or-map-
 use Rattle.std.proofs.Math.Seq.{drop-cons}
 use Rattle.std.proofs.Math.Nat.{add-mod-mod, mod-eq_of_lt}
 use Rattle.ring_spec.specs.Ring.{IsPoly, residue, residues, total, coefficient, times, ring_sum, ring_multiple}
-use Rattle.ring_laws.proofs.Integers.{sums}
-use Rattle.ring_laws.proofs.Congruences.{congruent_equal, congruent_self, agree_self, agree_equal}
-use Rattle.ring_laws.proofs.Residues.{residues_at, residues_poly, residues_unique, residues_same, same_polys, sum_poly, multiple_poly, coefficients_agree}
+use Rattle.ring_laws.proofs.Congruences.{agree_self}
+use Rattle.ring_laws.proofs.Residues.{residues_at, residues_poly, residues_unique, sum_poly, coefficients_agree}
 use Rattle.ring_laws.proofs.Rings.{sum_agrees, multiple_agrees, by_coefficients}
 use Rattle.ring_laws.proofs.Aggregates.{sum_at}
 use Rattle.share_spec.specs.Dealing.{power, value_at}
-use Rattle.share_laws.proofs.Shares.{row, powers}
-use Rattle.share_laws.proofs.Interpolation.{poly}
+use Rattle.share_laws.proofs.Shares.{powers}
 
 -- ---- one step
 
@@ -33,10 +31,10 @@ steps_are q n p v f now h e =
     let len : length all ≡ n = length-map-range_with_len (stepped q p v f) 0 n in
     let s = sum_poly q n f (ring_multiple q n p v) h in
     e ∙ ext_get_or 0 all (ring_sum q n f (ring_multiple q n p v)) (omega (arith, len, s.entries)) (λ i l.
-        let l' : i < n = omega (arith, len) in
-        get_or-map-range_with_len (stepped q p v f) 0 n i i 0 l' (omega arith)
-        ∙ sym (sum_at q n f (ring_multiple q n p v) i l' ∙ ap (λ (x : ℕ). (get_or f i 0 + x) % q) (multiple_at q n p v i l')
-            ∙ add-mod-mod (get_or f i 0) (p * get_or v i 0) q ∙ ap (λ (x : ℕ). x % q) (omega arith)))
+    let l' : i < n = omega (arith, len) in
+    get_or-map-range_with_len (stepped q p v f) 0 n i i 0 l' (omega arith)
+    ∙ sym (sum_at q n f (ring_multiple q n p v) i l' ∙ ap (λ (x : ℕ). (get_or f i 0 + x) % q) (multiple_at q n p v i l')
+    ∙ add-mod-mod (get_or f i 0) (p * get_or v i 0) q ∙ ap (λ (x : ℕ). x % q) (omega arith)))
 
 -- ---- all steps
 

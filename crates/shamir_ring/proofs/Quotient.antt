@@ -1,6 +1,6 @@
 -- The Lagrange coefficient of a party, one member of the set after the other.
-use Rattle.std.proofs.Common.{◌≡◌, ◌≢◌, ℕ, zero, suc, ◌+◌, ◌-◌, ◌*◌, ◌/◌, ◌%◌, ◌^◌, ◌<◌, ◌≤◌, List, [], ◌∷◌, ◌++◌, cond, true, false, refl, sym, ap, ◌∙◌, arith}
-use Rattle.std.specs.Prelude.{Bool, IsTrue, not, nat_eq, nat_le, ◌&&◌, filter, ℤ, pos, ◌-ℤ◌, ◌*ℤ◌}
+use Rattle.std.proofs.Common.{◌≡◌, ◌≢◌, ℕ, ◌+◌, ◌-◌, ◌*◌, ◌/◌, ◌%◌, ◌^◌, ◌<◌, ◌≤◌, List, [], ◌∷◌, ◌++◌, cond, true, false, refl, sym, ap, ◌∙◌, arith}
+use Rattle.std.specs.Prelude.{Bool, IsTrue, nat_eq, nat_le, ◌&&◌, filter, pos, ◌-ℤ◌, ◌*ℤ◌}
 use Rattle.std.specs.Int.{IsGcd}
 use Rattle.std.proofs.lemmas.Bool.{and_parts, leb-true, cond-true, cond-false, eq-eqb, ne_eqb, cond_both, not_from_true, not_from_false}
 use Rattle.std.proofs.lemmas.List.{append-nil}
@@ -10,11 +10,10 @@ use Rattle.std.proofs.Math.Nat.{dvd-sub, dvd-mul_left_of_dvd, one-dvd, mod-eq_of
 use Rattle.ring_spec.specs.Ring.{residue}
 use Rattle.ring_laws.specs.Congruence.{IsCongruent}
 use Rattle.ring_laws.proofs.Congruences.{congruent_chain, congruent_times, congruent_product, congruent_self, congruent_equal, residue_congruent}
-use Rattle.ring_laws.proofs.Integers.{times_times, times_commutes, one_times}
 use Rattle.param_set.specs.Numbers.{indivisible}
 use Rattle.share_spec.specs.Sets.{has, members_to, members}
 use Rattle.share_spec.specs.Lagrange.{ratio, quotient, product_over, other_than, lagrange}
-use Rattle.share_laws.proofs.Quotients.{IsUnit, IsQuotient, difference_unit, quotient_is, quotient_unique, same_rest, rest_same}
+use Rattle.share_laws.proofs.Quotients.{IsUnit, difference_unit, quotient_is, quotient_unique, same_rest, rest_same}
 use Rattle.proto_names.proofs.Members.{members_more, members_none, members_all}
 
 -- ---- one ratio
@@ -77,18 +76,18 @@ unfolding so_far
 so_far-takes q set j n was r now e m ne er en =
     let x = product_over (ratio q j) (filter (other_than j) (members_to n set)) in
     let list : filter (other_than j) (cond (has set (n + 1)) ((n + 1) ∷ []) []) ≡ (n + 1) ∷ [] =
-        rw m (cond-true (other_than j (n + 1)) ((n + 1) ∷ []) [] (not_from_false (nat_eq (n + 1) j) (ne_eqb (n + 1) j ne))) in
+    rw m (cond-true (other_than j (n + 1)) ((n + 1) ∷ []) [] (not_from_false (nat_eq (n + 1) j) (ne_eqb (n + 1) j ne))) in
     en ∙ ap (λ (z : ℕ). z * r % q) e ∙ mul-mod_first x r q ∙ ap (λ (z : ℕ). x * z % q) er
     ∙ sym (ap (λ (xs : List ℕ). product_over (ratio q j) xs % q) (more_list set j n ∙ ap (λ (xs : List ℕ). filter (other_than j) (members_to n set) ++ xs) list)
-        ∙ ap (λ (z : ℕ). z % q) (product_append (ratio q j) (filter (other_than j) (members_to n set)) (n + 1)))
+    ∙ ap (λ (z : ℕ). z % q) (product_append (ratio q j) (filter (other_than j) (members_to n set)) (n + 1)))
 
 -- no member, or j itself
 pub so_far-leaves : (q set j n was : ℕ) → was ≡ so_far q set j n → (has set (n + 1) ≡ true → n + 1 ≡ j) → was ≡ so_far q set j (n + 1)
 unfolding so_far
 so_far-leaves q set j n was e h =
     let none : filter (other_than j) (cond (has set (n + 1)) ((n + 1) ∷ []) []) ≡ [] =
-        cond_both (has set (n + 1)) ((n + 1) ∷ []) [] (λ (xs : List ℕ). filter (other_than j) xs ≡ [])
-        (λ m. cond-false (other_than j (n + 1)) ((n + 1) ∷ []) [] (not_from_true (nat_eq (n + 1) j) (eq-eqb (n + 1) j (h m)))) (λ m. refl) in
+    cond_both (has set (n + 1)) ((n + 1) ∷ []) [] (λ (xs : List ℕ). filter (other_than j) xs ≡ [])
+    (λ m. cond-false (other_than j (n + 1)) ((n + 1) ∷ []) [] (not_from_true (nat_eq (n + 1) j) (eq-eqb (n + 1) j (h m)))) (λ m. refl) in
     e ∙ sym (ap (λ (xs : List ℕ). product_over (ratio q j) xs % q) (more_list set j n ∙ ap (λ (xs : List ℕ). filter (other_than j) (members_to n set) ++ xs) none ∙ append-nil (filter (other_than j) (members_to n set))))
 
 -- the whole product

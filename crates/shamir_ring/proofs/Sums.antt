@@ -1,5 +1,5 @@
 -- A sum of polynomials, one after the other.
-use Rattle.std.proofs.Common.{◌≡◌, ℕ, zero, suc, ◌+◌, ◌%◌, ◌<◌, ◌≤◌, List, [], ◌∷◌, ◌++◌, length, get_or, take, replicate, refl, sym, ap, ◌∙◌, arith}
+use Rattle.std.proofs.Common.{◌≡◌, ℕ, ◌+◌, ◌<◌, List, [], ◌∷◌, length, get_or, take, replicate, sym, ap, ◌∙◌}
 use Rattle.std.specs.Prelude.{pos, All, Result, Ok, Err, IfOk}
 use Rattle.std.proofs.lemmas.List.{get_or-replicate, length-replicate, take_more}
 use Rattle.std.proofs.Math.Nat.{mod-eq_of_lt}

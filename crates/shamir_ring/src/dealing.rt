@@ -63,7 +63,12 @@ impl Dealing {
         let entries = value.as_mut_slice();
         for place in 0..self.coefficients.len() {
             let from_the_last = self.coefficients.len() - 1 - place;
-            horner(params.q(), entries, u64::from(point), self.coefficients[from_the_last].coeffs());
+            horner(
+                params.q(),
+                entries,
+                u64::from(point),
+                self.coefficients[from_the_last].coeffs(),
+            );
         }
         Ok(of_residues(params, value))
     }

@@ -26,7 +26,13 @@ pub fn combine(alloc: Global, ring: &Ring, dealt: &[Poly]) -> Result<Poly, Alloc
 
 /// What party j takes part with when a set acts: its share times its Lagrange coefficient.
 #[tactic(auto, using(crate::proofs::Sums::one_by_one))]
-pub fn additive(alloc: Global, ring: &Ring, share: &Poly, set: PartySet, j: u32) -> Result<Poly, AllocError>
+pub fn additive(
+    alloc: Global,
+    ring: &Ring,
+    share: &Poly,
+    set: PartySet,
+    j: u32,
+) -> Result<Poly, AllocError>
     requires { IsPoly ring.now.params.q ring.now.params.n share.now }
     ensures value { IfOk result (λ f. f ≡ ring_multiple ring.now.params.q ring.now.params.n (coefficient_of ring.now.params.q set.bits j) share.now) }
     ensures fits { IfOk result (λ f. IsPoly ring.now.params.q ring.now.params.n f) }

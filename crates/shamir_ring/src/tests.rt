@@ -1,14 +1,20 @@
+ghost use Rattle.std.specs.Prelude.{◌≡◌, ◌<◌, ◌≤◌, All, IfOk, length};
+ghost use Rattle.ring_spec.specs.Ring.{IsPoly};
+
 use super::*;
 use mod_ring::{Poly, Ring};
 use param_set::Params;
 use proto_names::PartySet;
 use std::alloc::{AllocError, Global};
 
-ghost use Rattle.std.specs.Prelude.{◌≡◌, ◌<◌, ◌≤◌, All, IfOk, length};
-ghost use Rattle.ring_spec.specs.Ring.{IsPoly};
-
 /// The sum of three polynomials.
-fn sum_of(alloc: Global, ring: &Ring, first: Poly, second: Poly, third: Poly) -> Result<Poly, AllocError>
+fn sum_of(
+    alloc: Global,
+    ring: &Ring,
+    first: Poly,
+    second: Poly,
+    third: Poly,
+) -> Result<Poly, AllocError>
     requires first { IsPoly ring.now.params.q ring.now.params.n first }
     requires second { IsPoly ring.now.params.q ring.now.params.n second }
     requires third { IsPoly ring.now.params.q ring.now.params.n third }
@@ -18,7 +24,13 @@ fn sum_of(alloc: Global, ring: &Ring, first: Poly, second: Poly, third: Poly) ->
 }
 
 /// What two parties of a set make of their shares.
-fn together(alloc: Global, ring: &Ring, set: PartySet, first: (u32, &Poly), second: (u32, &Poly)) -> Result<Poly, AllocError>
+fn together(
+    alloc: Global,
+    ring: &Ring,
+    set: PartySet,
+    first: (u32, &Poly),
+    second: (u32, &Poly),
+) -> Result<Poly, AllocError>
     requires first { IsPoly ring.now.params.q ring.now.params.n first.1.now }
     requires second { IsPoly ring.now.params.q ring.now.params.n second.1.now }
 {
@@ -34,9 +46,27 @@ fn any_two_of_three_have_the_secret(rt: HostRuntime) -> Result<(), AllocError> {
     let a = Dealing::new(alloc, &ring, [1; 32])?;
     let b = Dealing::new(alloc, &ring, [2; 32])?;
     let c = Dealing::new(alloc, &ring, [3; 32])?;
-    let one = sum_of(alloc, &ring, a.at(alloc, &ring, 1)?, b.at(alloc, &ring, 1)?, c.at(alloc, &ring, 1)?)?;
-    let two = sum_of(alloc, &ring, a.at(alloc, &ring, 2)?, b.at(alloc, &ring, 2)?, c.at(alloc, &ring, 2)?)?;
-    let three = sum_of(alloc, &ring, a.at(alloc, &ring, 3)?, b.at(alloc, &ring, 3)?, c.at(alloc, &ring, 3)?)?;
+    let one = sum_of(
+        alloc,
+        &ring,
+        a.at(alloc, &ring, 1)?,
+        b.at(alloc, &ring, 1)?,
+        c.at(alloc, &ring, 1)?,
+    )?;
+    let two = sum_of(
+        alloc,
+        &ring,
+        a.at(alloc, &ring, 2)?,
+        b.at(alloc, &ring, 2)?,
+        c.at(alloc, &ring, 2)?,
+    )?;
+    let three = sum_of(
+        alloc,
+        &ring,
+        a.at(alloc, &ring, 3)?,
+        b.at(alloc, &ring, 3)?,
+        c.at(alloc, &ring, 3)?,
+    )?;
     let secret = together(alloc, &ring, PartySet { bits: 3 }, (1, &one), (2, &two))?;
     let same = together(alloc, &ring, PartySet { bits: 5 }, (1, &one), (3, &three))?;
     let again = together(alloc, &ring, PartySet { bits: 6 }, (3, &three), (2, &two))?;
@@ -61,7 +91,11 @@ fn coefficients_of_two_parties(rt: HostRuntime) -> Result<(), AllocError> {
         (5, 0, 0),
         (1, 1, 1),
     ] {
-        assert_eq!(rt; lagrange(ring.params().q(), PartySet { bits }, j), want, "party {j} of the set {bits}");
+        assert_eq!(rt;
+            lagrange(ring.params().q(), PartySet { bits }, j),
+            want,
+            "party {j} of the set {bits}"
+        );
     }
     Ok(())
 }

@@ -1,5 +1,5 @@
 -- The parts sum to the secret, which is at most as large as there are parties.
-use Rattle.std.proofs.Common.{◌≡◌, ◌≤◌, ℕ, List, length, subst, sym, ap, ◌∙◌, arith}
+use Rattle.std.proofs.Common.{◌≡◌, ◌≤◌, ℕ, List, subst, sym, ap, ◌∙◌, arith}
 use Rattle.ring_spec.specs.Ring.{size}
 use Rattle.ring_laws.specs.Aggregate.{ring_total}
 use Rattle.share_spec.specs.Dealing.{secret}
@@ -19,7 +19,7 @@ returns-clause-small c seeds set many all parts =
     let p = c.args.ring.now.params in
     if_ok c.combine.result (λ f. f ≡ ring_total p.q p.n c.args.parts.now) (λ f. size p.q f ≤ p.parties)
     (λ f e.
-      let is : f ≡ secret p.q p.n seeds = e ∙ ap (ring_total p.q p.n) parts ∙ parts_sum p.q p.n p.threshold seeds set (omega arith) p.no_small_factor (omega arith) (omega arith) in
-      let P : List ℕ → Type 0 = λ x. size p.q x ≤ p.parties in
-      subst P (sym is) (omega (arith, secret_small p.q p.n seeds (omega arith))))
+    let is : f ≡ secret p.q p.n seeds = e ∙ ap (ring_total p.q p.n) parts ∙ parts_sum p.q p.n p.threshold seeds set (omega arith) p.no_small_factor (omega arith) (omega arith) in
+    let P : List ℕ → Type 0 = λ x. size p.q x ≤ p.parties in
+    subst P (sym is) (omega (arith, secret_small p.q p.n seeds (omega arith))))
     c.combine.ensures.value

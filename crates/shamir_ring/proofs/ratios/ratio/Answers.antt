@@ -1,5 +1,5 @@
 -- The difference of two points has an inverse, and i times that is the ratio.
-use Rattle.std.proofs.Common.{◌≡◌, ◌<◌, subst, ℕ, sym, ap, ◌∙◌, arith, rules}
+use Rattle.std.proofs.Common.{◌≡◌, ◌<◌, subst, ℕ, sym, arith, rules}
 use Rattle.std.specs.Prelude.{pos, ◌-ℤ◌}
 use Rattle.std.specs.Int.{IsGcd}
 use Rattle.ring_spec.specs.Ring.{residue}
@@ -23,7 +23,7 @@ returns-in-None c =
     let P : ℕ → Type 0 = λ z. IsGcd z q 1 in
     let same : c.difference.result ≡ residue q (pos c.args.i -ℤ pos c.args.j) = search rules in
     let apart : IsGcd c.difference.result q 1 =
-        subst P (sym same) (unit_apart q (residue q (pos c.args.i -ℤ pos c.args.j)) (omega arith)
-          (residue_unit q c.args.i c.args.j (omega arith) c.requires.no_small_divisor c.requires.apart c.requires.first c.requires.second)) in
+    subst P (sym same) (unit_apart q (residue q (pos c.args.i -ℤ pos c.args.j)) (omega arith)
+    (residue_unit q c.args.i c.args.j (omega arith) c.requires.no_small_divisor c.requires.apart c.requires.first c.requires.second)) in
     let there = c.in-None.ensures.exactly.1 apart in
     absurd (cc)

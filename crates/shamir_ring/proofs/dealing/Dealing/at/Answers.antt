@@ -1,8 +1,8 @@
 -- A turn takes one coefficient more, from the last to the first.
-use Rattle.std.proofs.Common.{◌≡◌, ◌+◌, ◌-◌, ◌<◌, ℕ, List, [], length, get_or, drop, replicate, subst, sym, ap, ◌∙◌, arith, rules}
+use Rattle.std.proofs.Common.{◌≡◌, ◌+◌, ◌-◌, ◌<◌, ℕ, [], length, get_or, drop, replicate, ap, ◌∙◌, arith, rules}
 use Rattle.std.proofs.lemmas.Grind.{common_steps}
 use Rattle.std.proofs.lemmas.List.{get_or_read}
-use Rattle.ring_spec.specs.Ring.{IsPoly, ring_sum, ring_multiple}
+use Rattle.ring_spec.specs.Ring.{ring_sum, ring_multiple}
 use Rattle.shamir_ring.proofs.Horner.{value_start, value_step, value_poly}
 use Rattle.shamir_ring.proofs.dealing.Dealing.at.Goals as goal
 
@@ -30,5 +30,5 @@ loop-place-preserved c =
     let read : f ≡ get_or fs (length fs - 1 - k) f = there ∙ ap (λ (i : ℕ). get_or fs i f) place in
     let stepped : c.horner.new.value ≡ ring_sum p.q p.n f (ring_multiple p.q p.n c.args.point c.loop-place.entries) = (first_of (cc, search rules)) in
     let value = value_step p.q p.n c.args.point fs k c.loop-place.entries c.horner.new.value f (omega arith) within before.value
-        (get_or_read fs (length fs - 1 - k) f (omega arith) read []) stepped in
+    (get_or_read fs (length fs - 1 - k) f (omega arith) read []) stepped in
     record { fits = value_poly p.q p.n (drop (length fs - (k + 1)) fs) c.args.point c.horner.new.value (omega arith) value; value = value }
