@@ -14,6 +14,7 @@ mod products;
 mod ring;
 mod signs;
 
+pub use mod_inverse::inverse;
 pub use pairs::{Ciphertext, PublicKey};
 pub use poly::{Poly, Polys};
 pub use ring::{Ring, add_into, mul, neg_into, of_residues, of_signed, scale_into, sub_into, zero};
