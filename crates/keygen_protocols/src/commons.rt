@@ -1,11 +1,11 @@
-ghost use Rattle.std.specs.Prelude.{◌≡◌, ℕ, ◌+◌, ◌^◌, IfOk};
+ghost use Rattle.std.specs.Prelude.{◌≡◌, ℕ, ◌+◌, ◌^◌, IfOk, All};
 ghost use Rattle.ring_spec.specs.Ring.{IsPoly};
 ghost use Rattle.draw_spec.specs.Streams.{instance_stream};
-ghost use Rattle.bfv_spec.specs.Shares.{common_poly};
+ghost use Rattle.bfv_spec.specs.Shares.{common_poly, common_polys};
 
 use std::alloc::{AllocError, Global};
 
-use mod_ring::{Poly, Ring};
+use mod_ring::{Poly, Polys, Ring};
 use ring_draws::uniform;
 use word_tape::Tape;
 
@@ -22,4 +22,18 @@ pub(crate) fn first_common(alloc: Global, ring: &Ring, public: [u8; 32], id: u32
     ensures fits { IfOk result (λ a. IsPoly ring.now.params.q ring.now.params.n a) }
 {
     uniform(alloc, ring, &mut Tape::new(public, stream_of(id)))
+}
+
+/// The common polynomials of an instance's first rows, one behind the other in the public seed's
+/// stream of the instance.
+pub fn common(alloc: Global, ring: &Ring, public: [u8; 32], id: u32, rows: u32) -> Result<Polys, AllocError>
+    ensures value { IfOk result (λ polys. polys ≡ common_polys ring.now.params.q ring.now.params.n public id rows) }
+    ensures fits { IfOk result (λ polys. All (IsPoly ring.now.params.q ring.now.params.n) polys) }
+{
+    let mut tape = Tape::new(public, stream_of(id));
+    let mut polys = Polys::new(alloc);
+    for row in 0..rows {
+        polys.push(uniform(alloc, ring, &mut tape)?)?;
+    }
+    Ok(polys)
 }

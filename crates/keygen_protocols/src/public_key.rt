@@ -2,8 +2,9 @@ ghost use Rattle.std.specs.Prelude.{◌≡◌, ℕ, [], ◌∷◌, length, slice
 ghost use Rattle.ring_spec.specs.Ring.{IsPoly};
 ghost use Rattle.draw_spec.specs.Streams.{instance_stream};
 ghost use Rattle.bfv_spec.specs.Drawn.{small_poly};
-ghost use Rattle.bfv_spec.specs.Shares.{honest_pk, pk_from};
+ghost use Rattle.bfv_spec.specs.Shares.{common_poly, honest_pk, pk_from};
 ghost use Rattle.bfv_core.specs.Fits.{KeyFits};
+ghost use Rattle.keygen_protocols.specs.Together.{IsKeyOfAll};
 
 use std::alloc::{AllocError, Global};
 
@@ -50,12 +51,16 @@ pub fn pk_share(alloc: Global, ring: &Ring, public: [u8; 32], seed: [u8; 32], id
 }
 
 /// The public key of an instance from the sums of its shares: their one row, and the common polynomial.
+///
+/// Where the row is the sum of honest shares, p0 + p1 * s is small for the sum s of the parties' parts:
+/// its size is at most that of one party's noise, times the number of parties.
 #[tactic(auto, unfolding(bfv_spec::specs::Shares::pk_from))]
 pub fn pk_key(alloc: Global, ring: &Ring, public: [u8; 32], id: u32, sums: &Polys) -> Result<PublicKey, AllocError>
     requires one_row { length sums.now ≡ 1 }
     requires fit { All (IsPoly ring.now.params.q ring.now.params.n) sums.now }
     ensures value { IfOk result (λ key. key ≡ pk_from ring.now.params.q ring.now.params.n public id (slice_index_or sums.now 0 [])) }
     ensures fits { IfOk result (λ key. KeyFits ring.now.params.q ring.now.params.n key) }
+    ensures together { IfOk result (λ key. IsKeyOfAll ring.now.params.q ring.now.params.n (common_poly ring.now.params.q ring.now.params.n public id 0) (slice_index_or sums.now 0 []) key) }
 {
     let p0 = copied(alloc, ring, sums.at(0))?;
     let p1 = first_common(alloc, ring, public, id)?;
