@@ -1,0 +1,18 @@
+-- The phase is the sum of the first part and the row.
+use Rattle.std.proofs.Common.{◌∙◌, [], slice_index_or, arith, rules}
+use Rattle.ring_spec.specs.Ring.{ring_sum}
+use Rattle.bfv_spec.specs.Scheme.{decryption}
+use Rattle.decrypt_protocol.proofs.Together.{opened-fits, opens-for-all}
+use Rattle.decrypt_protocol.proofs.finish.dec_finish.Goals as goal
+
+pub returns-clause-fits : goal.returns-clause-fits
+returns-clause-fits c =
+    let p = c.args.ring.now.params in
+    opened-fits p.q p.n p.t c.add_into.new.acc c.in_ok-opened.opened (omega arith) c.add_into.ensures.fits c.in_ok-opened.ensures
+
+pub returns-clause-together : goal.returns-clause-together
+returns-clause-together c =
+    let p = c.args.ring.now.params in
+    let row = slice_index_or c.args.sums.now 0 [] in
+    opens-for-all p.q p.n p.t p.flood c.args.c0.now row c.in_ok-opened.opened (omega arith) (omega arith) (omega arith)
+    (search rules)
