@@ -12,6 +12,8 @@ mod one_party;
 mod report;
 mod run;
 mod status;
+#[cfg(test)]
+mod tests;
 
 pub use run::{run_serial, run_words};
 pub use status::Status;
