@@ -5,8 +5,10 @@
 //! common polynomials are drawn. Nothing is said of how secret a seed is.
 #![tactic(auto)]
 
+mod party;
 mod seeds;
 #[cfg(test)]
 mod tests;
 
+pub use party::SeedParty;
 pub use seeds::SeedRoll;
