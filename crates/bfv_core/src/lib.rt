@@ -9,6 +9,8 @@
 
 mod cipher;
 mod plain;
+#[cfg(test)]
+mod tests;
 
 pub use cipher::{add, copied, encrypt, phase};
 pub use mod_ring::{Ciphertext, PublicKey};
