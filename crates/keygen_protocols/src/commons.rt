@@ -3,10 +3,9 @@ ghost use Rattle.ring_spec.specs.Ring.{IsPoly};
 ghost use Rattle.draw_spec.specs.Streams.{instance_stream};
 ghost use Rattle.bfv_spec.specs.Shares.{common_poly, common_polys};
 
-use std::alloc::{AllocError, Global};
-
 use mod_ring::{Poly, Polys, Ring};
 use ring_draws::uniform;
+use std::alloc::{AllocError, Global};
 use word_tape::Tape;
 
 /// The stream of an instance.
@@ -17,7 +16,12 @@ pub(crate) fn stream_of(id: u32) -> u64
 }
 
 /// The common polynomial of an instance's first row.
-pub(crate) fn first_common(alloc: Global, ring: &Ring, public: [u8; 32], id: u32) -> Result<Poly, AllocError>
+pub(crate) fn first_common(
+    alloc: Global,
+    ring: &Ring,
+    public: [u8; 32],
+    id: u32,
+) -> Result<Poly, AllocError>
     ensures value { IfOk result (λ a. a ≡ common_poly ring.now.params.q ring.now.params.n public id 0) }
     ensures fits { IfOk result (λ a. IsPoly ring.now.params.q ring.now.params.n a) }
 {

@@ -9,6 +9,8 @@
 
 mod commons;
 mod public_key;
+#[cfg(test)]
+mod tests;
 
 pub use commons::common;
 pub use public_key::{pk_key, pk_share};

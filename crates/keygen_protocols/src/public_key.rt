@@ -6,26 +6,36 @@ ghost use Rattle.bfv_spec.specs.Shares.{common_poly, honest_pk, pk_from};
 ghost use Rattle.bfv_core.specs.Fits.{KeyFits};
 ghost use Rattle.keygen_protocols.specs.Together.{IsKeyOfAll};
 
-use std::alloc::{AllocError, Global};
-
+use crate::commons::{first_common, stream_of};
 use bfv_core::copied;
 use mod_ring::{Poly, Polys, PublicKey, Ring, add_into, mul, neg_into};
 use ring_draws::small;
+use std::alloc::{AllocError, Global};
 use word_tape::Tape;
-
-use crate::commons::{first_common, stream_of};
 
 /// The noise of a party's share, from the party's stream of the instance.
 fn first_noise(alloc: Global, ring: &Ring, seed: [u8; 32], id: u32) -> Result<Poly, AllocError>
     ensures value { IfOk result (λ e. e ≡ small_poly ring.now.params.q ring.now.params.n ring.now.params.err seed (instance_stream id) 0) }
     ensures fits { IfOk result (λ e. IsPoly ring.now.params.q ring.now.params.n e) }
 {
-    small(alloc, ring, ring.params().err(), &mut Tape::new(seed, stream_of(id)))
+    small(
+        alloc,
+        ring,
+        ring.params().err(),
+        &mut Tape::new(seed, stream_of(id)),
+    )
 }
 
 /// The row of an honest share: -a * part + e.
 #[tactic(auto, unfolding(bfv_spec::specs::Shares::honest_pk, bfv_spec::specs::Scheme::pk_share))]
-fn pk_row(alloc: Global, ring: &Ring, public: [u8; 32], seed: [u8; 32], id: u32, part: &Poly) -> Result<Poly, AllocError>
+fn pk_row(
+    alloc: Global,
+    ring: &Ring,
+    public: [u8; 32],
+    seed: [u8; 32],
+    id: u32,
+    part: &Poly,
+) -> Result<Poly, AllocError>
     requires { IsPoly ring.now.params.q ring.now.params.n part.now }
     ensures value { IfOk result (λ row. row ≡ honest_pk ring.now.params.q ring.now.params.n ring.now.params.err public seed id part.now) }
     ensures fits { IfOk result (λ row. IsPoly ring.now.params.q ring.now.params.n row) }
@@ -40,7 +50,14 @@ fn pk_row(alloc: Global, ring: &Ring, public: [u8; 32], seed: [u8; 32], id: u32,
 
 /// The honest share of the public key of the party with this seed and this part of the secret: one
 /// row, -a * part + e, with a from the public seed's stream of the instance and e from the party's.
-pub fn pk_share(alloc: Global, ring: &Ring, public: [u8; 32], seed: [u8; 32], id: u32, part: &Poly) -> Result<Polys, AllocError>
+pub fn pk_share(
+    alloc: Global,
+    ring: &Ring,
+    public: [u8; 32],
+    seed: [u8; 32],
+    id: u32,
+    part: &Poly,
+) -> Result<Polys, AllocError>
     requires { IsPoly ring.now.params.q ring.now.params.n part.now }
     ensures value { IfOk result (λ rows. rows ≡ honest_pk ring.now.params.q ring.now.params.n ring.now.params.err public seed id part.now ∷ []) }
     ensures fits { IfOk result (λ rows. All (IsPoly ring.now.params.q ring.now.params.n) rows) }
@@ -55,7 +72,13 @@ pub fn pk_share(alloc: Global, ring: &Ring, public: [u8; 32], seed: [u8; 32], id
 /// Where the row is the sum of honest shares, p0 + p1 * s is small for the sum s of the parties' parts:
 /// its size is at most that of one party's noise, times the number of parties.
 #[tactic(auto, unfolding(bfv_spec::specs::Shares::pk_from))]
-pub fn pk_key(alloc: Global, ring: &Ring, public: [u8; 32], id: u32, sums: &Polys) -> Result<PublicKey, AllocError>
+pub fn pk_key(
+    alloc: Global,
+    ring: &Ring,
+    public: [u8; 32],
+    id: u32,
+    sums: &Polys,
+) -> Result<PublicKey, AllocError>
     requires one_row { length sums.now ≡ 1 }
     requires fit { All (IsPoly ring.now.params.q ring.now.params.n) sums.now }
     ensures value { IfOk result (λ key. key ≡ pk_from ring.now.params.q ring.now.params.n public id (slice_index_or sums.now 0 [])) }
