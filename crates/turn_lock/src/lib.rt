@@ -1,0 +1,11 @@
+//! A ticket lock round one value, with one history for all who take turns at it.
+#![tactic(auto)]
+
+mod kept;
+mod pass;
+mod rule;
+mod view;
+
+pub use kept::{Act, Kept};
+pub use pass::{Note, Pass, Passes};
+pub use view::{Sight, Stage, View};
