@@ -7,7 +7,7 @@ use Rattle.turn_lock.specs.declared.view.Sight.{Sight}
 use Rattle.turn_lock.specs.declared.view.Stage.{Stage}
 use Rattle.turn_lock.specs.declared.view.Stage.TheVariants.{Idle, Waiting, Acting}
 use Rattle.turn_lock.specs.declared.view.View.{View}
-use Rattle.turn_lock.specs.Views.{BeginsWith, Each, entries_by, numbers_in, fresh}
+use Rattle.turn_lock.specs.Views.{BeginsWith, Each, entries_by, fresh}
 
 -- f of each item, added up
 abbrev pub total : {A : Type 0} → (A → ℕ) → List A → ℕ
@@ -25,6 +25,9 @@ weigh f Idle = 0
 weigh f (Waiting t) = f t
 weigh f (Acting t) = f t
 
+abbrev pub ticket_of : Stage → ℕ
+ticket_of stage = weigh (λ t. t) stage
+
 -- 1 for who has the turn
 abbrev pub turn_of : Stage → ℕ
 turn_of Idle = 0
@@ -40,7 +43,7 @@ module _ {F E : Type 0} where
   ticket_in f v = weigh f v.stage
 
   abbrev pub passes_in : (ℕ → ℕ) → View F E → ℕ
-  passes_in f v = total f (numbers_in v)
+  passes_in f v = total (λ t. f t.number) v.sights
 
   abbrev pub turn_in : View F E → ℕ
   turn_in v = turn_of v.stage

@@ -12,6 +12,7 @@ use Rattle.turn_lock.specs.declared.view.Stage.{Stage}
 use Rattle.turn_lock.specs.declared.view.Stage.TheVariants.{Idle, Waiting, Acting}
 use Rattle.turn_lock.specs.declared.view.View.{View}
 use Rattle.turn_lock.specs.Views.{BeginsWith, entries_by, numbers_in, alone, grown, unnumbered}
+use Rattle.turn_lock.specs.Rule.{ticket_of}
 
 module _ {F E : Type 0} where
   -- the view at another stage
@@ -73,7 +74,7 @@ module _ {V F E : Type 0} (fixed : V → F) (entries : V → List E) (number : E
 
   -- at another seat's ticket nothing changes
   abbrev pub looked : Step (Option V) → Me (Option V) (View F E) → ℕ → Me (Option V) (View F E) → Type 0
-  looked st me n me' = (t : ℕ) → me.0.stage ≡ Waiting t → MatchBool (n == t % 2 ^ 64) (Finds me me') (me' ≡ me)
+  looked st me n me' = MatchBool (n == ticket_of me.0.stage % 2 ^ 64) (Finds me me') (me' ≡ me)
 
 module _ {V F E : Type 0} (entries : V → List E) where
   -- the sight after a turn that left a value with this history
