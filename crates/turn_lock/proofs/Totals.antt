@@ -6,7 +6,7 @@ use native.Mathlib.Decide.{dec_le, ℕ_discrete}
 use mathlib.Core.Option.{some, some-injective, some-ne-none}
 use lib.ListN.{get_elem?}
 use Rattle.turn_lock.specs.Views.{Each}
-use Rattle.turn_lock.specs.Rule.{total, total_below}
+use Rattle.turn_lock.specs.Rule.{total, total_below, one_each}
 
 module _ {A : Type 0} where
   pub total_set : (f : A → ℕ) (l : List A) (i : ℕ) (a b : A) → get_elem? l i ≡ some a → total f (set l i b) + f a ≡ total f l + f b
@@ -84,16 +84,11 @@ module _ {A : Type 0} where
 abbrev pub same : ℕ → ℕ → ℕ
 same t n = cond (n == t) 1 0
 
--- 1 but at 0
-abbrev pub some_number : ℕ → ℕ
-some_number zero = 0
-some_number (suc n) = 1
-
 pub below_ones : (n : ℕ) → total_below (λ _. 1) n ≡ n
 below_ones zero = refl
 below_ones (suc n) = let h = below_ones n in omega (arith, h)
 
-pub below_numbers : (n : ℕ) → total_below some_number (suc n) ≡ n
+pub below_numbers : (n : ℕ) → total_below one_each (suc n) ≡ n
 below_numbers zero = refl
 below_numbers (suc n) = let h = below_numbers n in omega (arith, h)
 

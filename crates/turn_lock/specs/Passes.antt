@@ -4,8 +4,13 @@ use Rattle.atomic_table.specs.Seated.{TableId}
 use Rattle.turn_lock.specs.declared.kept.Kept.{Ghosts}
 use Rattle.turn_lock.specs.declared.pass.Pass.{Pass}
 use Rattle.turn_lock.specs.declared.pass.Note.{Note}
+use Rattle.turn_lock.specs.declared.lock.TurnLock.{TurnLock}
 use Rattle.turn_lock.specs.Views.{BeginsWith, Each, entries_by, fixed_in, began_in, since_in}
 use Rattle.turn_lock.specs.Rule.{IsBy}
+
+-- what tells one lock from another
+abbrev pub id_of : {V F E : Type 0} → TurnLock V F E → TableId
+id_of l = l.table.shared.table_id
 
 module _ {V F E : Type 0} {K : Ghosts V F E} where
   -- which lock the pass is of
@@ -48,6 +53,11 @@ module _ {V F E : Type 0} {K : Ghosts V F E} where
   -- a pass that has seen the list es and made no entry
   abbrev pub IsNewPass : TableId → ℕ → F → List E → Pass V F E K → Type 0
   IsNewPass lock n f es p = (lock_of p ≡ lock) × (number_of p ≡ n) × (fixed_of p ≡ Some f) × (began p ≡ es) × (since p ≡ [])
+
+  -- new passes for so many callers
+  pub record AreNew (lock : TableId) (callers : ℕ) (f : F) (es : List E) (ps : List (Pass V F E K)) : Type 0 where
+    pub count : length ps ≡ callers
+    pub each : (k : ℕ) (p : Pass V F E K) → slice_get ps k ≡ Some p → IsNewPass lock (k + 1) f es p
 
   -- they are the passes of this lock, by rising number from 1 on
   pub record AreAll (lock : TableId) (callers : ℕ) (ps : List (Pass V F E K)) : Type 0 where

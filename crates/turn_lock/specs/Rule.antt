@@ -19,6 +19,11 @@ abbrev pub total_below : (ℕ → ℕ) → ℕ → ℕ
 total_below f zero = 0
 total_below f (suc n) = total_below f n + f n
 
+-- 1 for a pass's number, and 0 for a note's
+abbrev pub one_each : ℕ → ℕ
+one_each zero = 0
+one_each (suc n) = 1
+
 -- the ticket of a stage, weighed by f
 abbrev pub weigh : (ℕ → ℕ) → Stage → ℕ
 weigh f Idle = 0

@@ -32,7 +32,10 @@ module _ {F E : Type 0} where
   abbrev pub handed_out : View F E → View F E
   handed_out v = record { sights = take 1 v.sights; stage = Idle }
 
-  -- what a note copies
+  -- a pass of which a note is made, and what the note copies
+  abbrev pub copied : View F E → View F E
+  copied v = record { sights = v.sights; stage = Idle }
+
   abbrev pub noted : View F E → View F E
   noted v = record { sights = map unnumbered v.sights; stage = Idle }
 

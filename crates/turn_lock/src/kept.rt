@@ -29,13 +29,13 @@ pub trait Act<V: Kept> {
     // The entry that it appends, if any: it follows from the act and its reply.
     ghost appends: { Self → Self.Reply → Option V.Entry };
     // What the reply says of the value before and of the value after.
-    ghost Says: { Self → V → Self.Reply → V → Type 0 };
+    ghost Says: { Self → Self.Reply → V → V → Type 0 };
 
     fn act(self, value: &mut V) -> Self::Reply
         requires { MayAct self value.old }
         ensures fixed { V.fixed value.new ≡ V.fixed value.old }
         ensures entries { V.entries value.new ≡ V.entries value.old ++ option_to_list (appends self result) }
-        ensures says { Says self value.old result value.new };
+        ensures says { Says self result value.old value.new };
 
     ghost signed: { (a : Self) (r : Self.Reply) (e : V.Entry) → appends a r ≡ Some e → V.number e ≡ number a };
 }

@@ -2,10 +2,14 @@
 #![tactic(auto)]
 
 mod kept;
+mod lock;
 mod pass;
+mod passes;
 mod rule;
+mod turns;
 mod view;
 
 pub use kept::{Act, Kept};
+pub use lock::TurnLock;
 pub use pass::{Note, Pass, Passes};
 pub use view::{Sight, Stage, View};

@@ -10,7 +10,7 @@ use atomic_table::Seat;
 /// The right to take turns under one number.
 #[derive(Drop)]
 pub struct Pass<V: Kept> {
-    number: u32,
+    pub(crate) number: u32,
     pub(crate) seat: Seat<Option<V>, View<V::Fixed, V::Entry>>,
     ghost numbered: { numbers_in seat.me.0 ≡ number ∷ [] },
     ghost counts: { 1 ≤ number },

@@ -15,9 +15,9 @@ use Rattle.turn_lock.specs.declared.view.Stage.{Stage}
 use Rattle.turn_lock.specs.declared.view.Stage.TheVariants.{Idle, Waiting, Acting}
 use Rattle.turn_lock.specs.declared.view.View.{View}
 use Rattle.turn_lock.specs.Views.{BeginsWith, Each, entries_by, alone, grown}
-use Rattle.turn_lock.specs.Rule.{weigh, ticket_of, turn_of, total, total_below, ticket_in, passes_in, turn_in, IsBy, Stands, IsTrueSight, IsTrueView, IsHome, Placed, Ruled}
+use Rattle.turn_lock.specs.Rule.{one_each, weigh, ticket_of, turn_of, total, total_below, ticket_in, passes_in, turn_in, IsBy, Stands, IsTrueSight, IsTrueView, IsHome, Placed, Ruled}
 use Rattle.turn_lock.specs.Steps.{Finds, looked, view_after, passed_on}
-use Rattle.turn_lock.proofs.Totals.{total_set, total_has, total_le, total_apart, each_set, each_append, each_at, each_map, each_both, each_but, each_zero, same, some_number, below_ones, below_numbers, same_here, same_else, below_same_most, between}
+use Rattle.turn_lock.proofs.Totals.{total_set, total_has, total_le, total_apart, each_set, each_append, each_at, each_map, each_both, each_but, each_zero, same, below_ones, below_numbers, same_here, same_else, below_same_most, between}
 use Rattle.turn_lock.proofs.Entries.{one_further, by_append, by_rest, by_none}
 use Rattle.turn_lock.proofs.Keeps.{stays_placed}
 
@@ -39,28 +39,28 @@ not_number p h = let e : 0 ≢ p = (λ e. absurd (omega arith)) in same_else p 0
 apart_differs : (p q : ℕ) → same p q ≡ 0 → p ≢ q
 apart_differs p q z e = let h : same p q ≡ 1 = ap (same p) (sym e) ∙ same_here p in absurd (omega arith)
 
-some_is : (n : ℕ) → 1 ≤ n → some_number n ≡ 1
+some_is : (n : ℕ) → 1 ≤ n → one_each n ≡ 1
 some_is zero h = absurd (omega arith)
 some_is (suc n) h = refl
 
 module _ {F E : Type 0} (since : List E) (served : ℕ) where
-  counted : (t : Sight F E) → 1 ≤ t.number → total (λ (x : Sight F E). some_number x.number) (t ∷ []) ≡ 1
-  counted t h = let e : some_number t.number ≡ 1 = some_is t.number h in omega arith
+  counted : (t : Sight F E) → 1 ≤ t.number → total (λ (x : Sight F E). one_each x.number) (t ∷ []) ≡ 1
+  counted t h = let e : one_each t.number ≡ 1 = some_is t.number h in omega arith
 
-  ticket_has_pass : (ts : List (Sight F E)) (stage : Stage) → Stands since served ts stage → weigh (λ _. 1) stage ≤ total (λ t. some_number t.number) ts
+  ticket_has_pass : (ts : List (Sight F E)) (stage : Stage) → Stands since served ts stage → weigh (λ _. 1) stage ≤ total (λ t. one_each t.number) ts
   ticket_has_pass ts Idle h = omega arith
-  ticket_has_pass ts (Waiting k) h = let e : total (λ (x : Sight F E). some_number x.number) ts ≡ 1 = ap (total (λ (x : Sight F E). some_number x.number)) h.1 ∙ counted h.0 h.2 in omega arith
-  ticket_has_pass ts (Acting k) h = let e : total (λ (x : Sight F E). some_number x.number) ts ≡ 1 = ap (total (λ (x : Sight F E). some_number x.number)) h.1 ∙ counted h.0 h.2 in omega arith
+  ticket_has_pass ts (Waiting k) h = let e : total (λ (x : Sight F E). one_each x.number) ts ≡ 1 = ap (total (λ (x : Sight F E). one_each x.number)) h.1 ∙ counted h.0 h.2 in omega arith
+  ticket_has_pass ts (Acting k) h = let e : total (λ (x : Sight F E). one_each x.number) ts ≡ 1 = ap (total (λ (x : Sight F E). one_each x.number)) h.1 ∙ counted h.0 h.2 in omega arith
 
   turn_has_ticket : (ts : List (Sight F E)) (stage : Stage) → Stands since served ts stage → turn_of stage ≤ weigh (same served) stage
   turn_has_ticket ts Idle h = omega arith
   turn_has_ticket ts (Waiting k) h = omega arith
   turn_has_ticket ts (Acting k) h = let e : same served k ≡ 1 = ap (same served) h.4 ∙ same_here served in omega arith
 
-  turn_has_pass : (ts : List (Sight F E)) (stage : Stage) → Stands since served ts stage → turn_of stage ≤ total (λ t. some_number t.number) ts
+  turn_has_pass : (ts : List (Sight F E)) (stage : Stage) → Stands since served ts stage → turn_of stage ≤ total (λ t. one_each t.number) ts
   turn_has_pass ts Idle h = omega arith
   turn_has_pass ts (Waiting k) h = omega arith
-  turn_has_pass ts (Acting k) h = let e : total (λ (x : Sight F E). some_number x.number) ts ≡ 1 = ap (total (λ (x : Sight F E). some_number x.number)) h.1 ∙ counted h.0 h.2 in omega arith
+  turn_has_pass ts (Acting k) h = let e : total (λ (x : Sight F E). one_each x.number) ts ≡ 1 = ap (total (λ (x : Sight F E). one_each x.number)) h.1 ∙ counted h.0 h.2 in omega arith
 
   -- who has no turn does not see what is served
   stands_on : (since' : List E) (served' : ℕ) (ts : List (Sight F E)) (stage : Stage) → turn_of stage ≡ 0 → Stands since served ts stage → Stands since' served' ts stage
@@ -81,10 +81,10 @@ module _ {V F E : Type 0} (fixed : V → F) (entries : V → List E) (number : E
   -- so few tickets are out that the words tell them apart
   in_reach : (s : S) (r : R s) → r.drawn ≤ r.served + 64
   in_reach s r =
-      let le = total_le (IsTrueView number f b r.since r.served) (ticket_in (λ _. 1)) (passes_in some_number)
+      let le = total_le (IsTrueView number f b r.since r.served) (ticket_in (λ _. 1)) (passes_in one_each)
           (λ (v : View F E) (h : IsTrueView number f b r.since r.served v). ticket_has_pass r.since r.served v.sights v.stage h.stage) s.views r.views in
       let t = r.tickets (λ _. 1) in
-      let n = r.numbers some_number refl in
+      let n = r.numbers one_each refl in
       let d = below_ones r.drawn in
       let e = below_ones r.served in
       let c = below_numbers callers in
@@ -169,7 +169,7 @@ module _ {V F E : Type 0} (fixed : V → F) (entries : V → List E) (number : E
         },
       )
 
-  pub looks : (id slots t : ℕ) (v : View F E) → v.stage ≡ Waiting t → Allows R slots id (v, []) 1 (λ n. n) (looked fixed entries number (step slots 1 0 0 maybe.none) (v, []))
+  looks : (id slots t : ℕ) (v : View F E) → v.stage ≡ Waiting t → Allows R slots id (v, []) 1 (λ n. n) (looked fixed entries number (step slots 1 0 0 maybe.none) (v, []))
   looks id slots t v waits s r deep at small =
       let n : ℕ = get_or s.words 1 0 in
       let ticket : ticket_of v.stage ≡ t = ap ticket_of waits in
@@ -178,6 +178,11 @@ module _ {V F E : Type 0} (fixed : V → F) (entries : V → List E) (number : E
             (got.0, takes 0 (Some got.1), got.2, got.3, at_true n (ticket_of v.stage % 2 ^ 64) _ _ hit got.4))
           (λ miss. let here : List ℕ × List (View F E) → S = λ z. record { words = z.0; homes = s.homes; views = z.1 } in
             (v, keeps, tt, subst (λ (z : List ℕ × List (View F E)). R (here z)) (λ i. (sym (set-get_or s.words 1 0) i, sym (set_again s.views id v at) i)) r, at_false n (ticket_of v.stage % 2 ^ 64) _ _ miss refl))
+
+  pub looks_at : (id slots t : ℕ) (me : Seat_) → me.0.stage ≡ Waiting t → me.1 ≡ [] → Allows R slots id me 1 (λ n. n) (looked fixed entries number (step slots 1 0 0 maybe.none) me)
+  looks_at id slots t me waits empty =
+      let P : List (ℕ × Option V) → Type 0 = λ c. Allows R slots id (me.0, c) 1 (λ n. n) (looked fixed entries number (step slots 1 0 0 maybe.none) (me.0, c)) in
+      subst P (sym empty) (looks id slots t me.0 waits)
 
   -- a pass's number is one of those that were given out
   number_fits : (s : S) (r : R s) (id : ℕ) (t : Sight F E) (stage : Stage) → get_elem? s.views id ≡ some (alone t stage) → 1 ≤ t.number
@@ -250,11 +255,11 @@ module _ {V F E : Type 0} (fixed : V → F) (entries : V → List E) (number : E
       )
 
   -- at the end one idle view has every number, and so the slot is at home
-  pub rests : (s : S) (r : R s) (id : ℕ) (v : View F E) → get_elem? s.views id ≡ some v → v.stage ≡ Idle → callers ≤ passes_in some_number v → IsHome fixed entries f (b ++ r.since) s.homes
+  pub rests : (s : S) (r : R s) (id : ℕ) (v : View F E) → get_elem? s.views id ≡ some v → v.stage ≡ Idle → callers ≤ passes_in one_each v → IsHome fixed entries f (b ++ r.since) s.homes
   rests s r id v at idle every =
-      let apart = total_apart (IsTrueView number f b r.since r.served) turn_in (passes_in some_number)
+      let apart = total_apart (IsTrueView number f b r.since r.served) turn_in (passes_in one_each)
           (λ (x : View F E) (h : IsTrueView number f b r.since r.served x). turn_has_pass r.since r.served x.sights x.stage h.stage) s.views id v r.views at in
       let none : turn_in v ≡ 0 = ap turn_of idle in
-      let all = r.numbers some_number refl in
+      let all = r.numbers one_each refl in
       let c = below_numbers callers in
       at_home (b ++ r.since) s (omega (arith, apart, none, all, c)) r.placed
