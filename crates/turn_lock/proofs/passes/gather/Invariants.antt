@@ -6,7 +6,7 @@ use Rattle.turn_lock.proofs.passes.gather.Given as goal
 abbrev pub invariant-passes : goal.invariant-passes
 invariant-passes g l = record {
   left : l.list.items ≡ take (vec_len l.list) l.fn.list.items;
-  seat : l.seat.table_id ≡ l.fn.board.now.table_id;
+  seat : l.seat.table_id ≡ l.fn.board.table_id;
   idle : l.seat.me.0.stage ≡ Idle;
   empty : l.seat.me.1 ≡ [];
   known : GathersFrom (vec_len l.list) l.fn.list.items l.seat.me.0;

@@ -1,9 +1,13 @@
-use Rattle.std.proofs.Common.{rules, ◌≡◌, ◌%◌, ◌^◌, ℕ, [], ◌∷◌, Some, None, ◌+◌, ◌-◌, ◌*◌, ◌<◌, ◌≤◌, length, ◌/◌, Bool, true, false, nat_eq, nat_lt, List, ◌++◌, slice_index_or, slice_set, bit_and, bit_or, Fits, w8, w32, w64, Bor, MutBor}
-use Rattle.turn_lock.specs.declared.view.Stage.TheVariants.{Waiting}
+use Rattle.std.proofs.Common.{◌∙◌, sym, ap, arith, rules}
 use Rattle.turn_lock.specs.Rule.{ticket_of}
-use Rattle.turn_lock.specs.Steps.{Finds}
+use Rattle.turn_lock.proofs.TurnKeeps.{looks_at}
 use Rattle.turn_lock.proofs.turns.wait_for.Goals as goal
 
--- src/turns.rt:22:12
 pub load-requires : goal.load-requires
-load-requires g c = ?
+load-requires g c =
+    let at = ap (λ m. m.0.stage) c.loop.invariant.me ∙ c.requires.stage in
+    let empty = ap (λ m. m.1) c.loop.invariant.me ∙ c.requires.empty in (
+      c.loop.invariant.table ∙ c.requires.lock.0,
+      omega (arith, c.requires.lock.1),
+      looks_at g.V.Kept.fixed g.V.Kept.entries g.V.Kept.number _ _ _ _ _ _ _ at empty,
+    )

@@ -1,16 +1,41 @@
-use Rattle.std.proofs.Common.{rules, ◌≡◌, ◌≤◌, ◌++◌, option_to_list, ℕ, ◌+◌, ◌-◌, ◌*◌, ◌<◌, length, ◌/◌, ◌%◌, Bool, true, false, nat_eq, nat_lt, List, [], ◌∷◌, slice_index_or, slice_set, bit_and, bit_or, Fits, w8, w32, w64, Bor, MutBor}
-use Rattle.turn_lock.specs.Views.{BeginsWith}
-use Rattle.turn_lock.specs.Passes.{id_of, lock_of, number_of, seen, mine, lock_in, seen_in, IsSamePass, MayTake, TakesTurn}
+use Rattle.std.proofs.Common.{◌∙◌, refl, arith, option_to_list}
+use Rattle.turn_lock.proofs.Keeps.{draws}
+use Rattle.turn_lock.proofs.Taking.{pass_at, each_option, drew_sights, put_back, Acts, may_pass_on, passed, takes, grows, stays}
 use Rattle.turn_lock.proofs.lock.TurnLock.take_turn.Goals as goal
 
--- src/lock.rt:40:13
 pub fetch_add-ticket-requires : goal.fetch_add-ticket-requires
-fetch_add-ticket-requires g c = ?
+fetch_add-ticket-requires g c =
+    let p = c.args.pass.now in (
+      c.requires.lock,
+      omega (arith, c.args.self.now.sized.0),
+      draws g.V.Kept.fixed g.V.Kept.entries g.V.Kept.number _ _ _ _ _ _ (pass_at p.seat.me.0 p.number p.numbered p.idle p.counts),
+    )
 
--- src/lock.rt:45:9
 pub fetch_add-requires : goal.fetch_add-requires
-fetch_add-requires g c = ?
+fetch_add-requires g c =
+    let a : Acts c.args.pass.now c.fetch_add-ticket.new.seat.me c.wait_for.new.seat.me c.put_in.new.seat.me c.take_out-value.result c.act-reply.new.value (option_to_list (g.A.Act.appends c.args.act c.act-reply.result)) = record {
+      drew = drew_sights _ _ _ _ c.fetch_add-ticket.ensures.2.2;
+      finds = c.wait_for.ensures.found;
+      took = c.take_out-value.ensures.value;
+      put = put_back _ _ _ _ _ c.take_out-value.ensures.same.2 c.put_in.ensures.2;
+      fixed_y = c.act-reply.ensures.fixed;
+      entries_y = c.act-reply.ensures.entries;
+      signed = each_option _ _ (λ e h. g.met.A.Act.signed _ _ e h ∙ c.requires.number);
+    } in (
+      c.put_in.ensures.0 ∙ (c.take_out-value.ensures.same.0 ∙ (c.wait_for.ensures.same.0 ∙ (c.fetch_add-ticket.ensures.0 ∙ c.requires.lock))),
+      omega (arith, c.args.self.now.sized.0),
+      may_pass_on _ _ _ _ _ _ _ a _ _ _ _ _,
+    )
 
--- src/lock.rt:31:5
 pub returns-clause-turn : goal.returns-clause-turn
-returns-clause-turn g c = ?
+returns-clause-turn g c =
+    let a : Acts c.args.pass.now c.fetch_add-ticket.new.seat.me c.wait_for.new.seat.me c.put_in.new.seat.me c.take_out-value.result c.act-reply.new.value (option_to_list (g.A.Act.appends c.args.act c.act-reply.result)) = record {
+      drew = drew_sights _ _ _ _ c.fetch_add-ticket.ensures.2.2;
+      finds = c.wait_for.ensures.found;
+      took = c.take_out-value.ensures.value;
+      put = put_back _ _ _ _ _ c.take_out-value.ensures.same.2 c.put_in.ensures.2;
+      fixed_y = c.act-reply.ensures.fixed;
+      entries_y = c.act-reply.ensures.entries;
+      signed = each_option _ _ (λ e h. g.met.A.Act.signed _ _ e h ∙ c.requires.number);
+    } in
+    takes _ _ _ _ _ _ _ a _ refl (passed _ _ _ _ _ _ _ a _ c.fetch_add.ensures.2) _ c.act-reply.ensures.says (g.V.Kept.legal _)

@@ -1,0 +1,146 @@
+-- What a turn, a note and a meeting do to a pass.
+use Rattle.std.proofs.Common.{◌≡◌, ℕ, zero, suc, ◌+◌, ◌%◌, ◌^◌, ◌<◌, ◌≤◌, Option, Some, None, option_to_list, List, [], ◌∷◌, ◌++◌, map, length, drop, sym, refl, ap, ap₂, ◌∙◌, subst, arith, append-nil, append_assoc}
+use Rattle.std.proofs.Math.Seq.{drop-append_seam}
+use mathlib.Core.Option as maybe
+use Rattle.atomic_table.specs.Table.{State, Me, step, Allows, Splits}
+use Rattle.turn_lock.specs.declared.kept.Kept.{Ghosts}
+use Rattle.turn_lock.specs.declared.pass.Pass.{Pass}
+use Rattle.turn_lock.specs.declared.view.Sight.{Sight}
+use Rattle.turn_lock.specs.declared.view.Stage.{Stage}
+use Rattle.turn_lock.specs.declared.view.Stage.TheVariants.{Idle, Waiting, Acting}
+use Rattle.turn_lock.specs.declared.view.View.{View}
+use Rattle.turn_lock.specs.Views.{BeginsWith, Each, entries_by, number_in, numbers_in, fixed_in, began_in, since_in, alone, grown, unnumbered}
+use Rattle.turn_lock.specs.Rule.{total, passes_in, IsTrueSight, Ruled}
+use Rattle.turn_lock.specs.Steps.{IsPassAt, Finds, Recalls, view_after, passed_on, joined, copied, noted}
+use Rattle.turn_lock.specs.Passes.{fixed_of, began, since, seen, mine, IsSamePass, TakesTurn}
+use Rattle.turn_lock.proofs.Entries.{by_append, by_all}
+use Rattle.turn_lock.proofs.Keeps.{splits, recalls}
+use Rattle.turn_lock.proofs.TurnKeeps.{passes_on}
+
+module _ {F E : Type 0} where
+  pub one_sight : (ts : List (Sight F E)) (n : ℕ) → map number_in ts ≡ n ∷ [] → (t : Sight F E) × (ts ≡ t ∷ []) × (t.number ≡ n)
+  one_sight [] n e = let h : 0 ≡ 1 = ap length e in absurd (omega (arith, h))
+  one_sight (t ∷ []) n e = let h : t.number + 0 ≡ n + 0 = ap (total (λ k. k)) e in let k : t.number ≡ n = omega (arith, h) in (t, refl, k)
+  one_sight (t ∷ u ∷ ts) n e = let h : suc (suc (length (map number_in ts))) ≡ 1 = ap length e in absurd (omega (arith, h))
+
+  pub pass_at : (v : View F E) (n : ℕ) → numbers_in v ≡ n ∷ [] → v.stage ≡ Idle → 1 ≤ n → IsPassAt v Idle
+  pass_at v n e idle counts = let o = one_sight v.sights n e in record { sight = o.0; is = λ i. record { sights = o.1 i; stage = idle i }; numbered = subst (λ k. 1 ≤ k) (sym o.2) counts }
+
+  no_numbers : (g : ℕ → ℕ) → g 0 ≡ 0 → (ts : List (Sight F E)) → total (λ t. g t.number) (map unnumbered ts) ≡ 0
+  no_numbers g z [] = refl
+  no_numbers g z (t ∷ ts) = let h = no_numbers g z ts in omega (arith, h, z)
+
+  all_unnumbered : (number : E → ℕ) (f : F) (b since : List E) (ts : List (Sight F E)) → Each (IsTrueSight number f b since) ts → Each (IsTrueSight number f b since) (map unnumbered ts)
+  all_unnumbered number f b since [] all = tt
+  all_unnumbered number f b since (t ∷ ts) all = (record { fixed = all.0.fixed; began_is = all.0.began_is; prefix = all.0.prefix; own = λ h. absurd (omega arith) }, all_unnumbered number f b since ts all.1)
+
+module _ {V F E : Type 0} (fixed : V → F) (entries : V → List E) (number : E → ℕ) (f : F) (b : List E) (callers : ℕ) where
+  pub copies : (id : ℕ) (v : View F E) → v.stage ≡ Idle → Splits (Ruled fixed entries number f b callers) id v (copied v) (noted v)
+  copies id v idle = splits fixed entries number f b callers id v v.sights (map unnumbered v.sights) idle (λ g z. let h = no_numbers g z v.sights in omega (arith, h)) (λ s all. (all, all_unnumbered number f b s v.sights all))
+
+  -- the load behind a join
+  pub recalls_at : (id slots i n : ℕ) (me : Me (Option V) (View F E)) (v w : View F E) (c : List (ℕ × Option V)) → me ≡ (joined v w, c) → numbers_in v ≡ n ∷ [] → 1 ≤ n → numbers_in w ≡ 0 ∷ []
+      → Allows (Ruled fixed entries number f b callers) slots id me i (λ n. n) (λ n. Recalls number me)
+  recalls_at id slots i n me v w c is one counts none =
+      let p = one_sight v.sights n one in
+      let q = one_sight w.sights 0 none in
+      let e : me ≡ (record { sights = p.0 ∷ q.0 ∷ []; stage = Idle }, c) = is ∙ (λ k. (record { sights = p.1 k ++ q.1 k; stage = Idle }, c)) in
+      let P : Me (Option V) (View F E) → Type 0 = λ m. Allows (Ruled fixed entries number f b callers) slots id m i (λ n. n) (λ n. Recalls number m) in
+      subst P (sym e) (recalls fixed entries number f b callers id slots i p.0 q.0 c (subst (λ k. 1 ≤ k) (sym p.2) counts) q.2)
+
+module _ {V F E : Type 0} where
+  pub drew_sights : (m : Me (Option V) (View F E)) (ts : List (Sight F E)) (stage : Stage) (c : List (ℕ × Option V)) → m ≡ (record { sights = ts; stage = stage }, c) → m.0.sights ≡ ts
+  drew_sights m ts stage c e = ap (λ m. m.0.sights) e
+
+  pub put_back : (v : View F E) (m' m'' : Me (Option V) (View F E)) (c d : List (ℕ × Option V)) → m' ≡ (v, c) → m'' ≡ (m'.0, d) → m'' ≡ (v, d)
+  put_back v m' m'' c d e e' = e' ∙ ap (λ x. (x.0, d)) e
+
+abbrev held_or : {V : Type 0} → V → List (ℕ × Option V) → V
+held_or d ((k, Some y) ∷ c) = y
+held_or d c = d
+
+pub each_option : {E : Type 0} (P : E → Type 0) (o : Option E) → ((e : E) → o ≡ Some e → P e) → Each P (option_to_list o)
+each_option P None h = tt
+each_option P (Some e) h = (h e refl, tt)
+
+module _ {V F E : Type 0} {K : Ghosts V F E} where
+  -- the facts of one turn of the pass p: m1 is its seat once it waits, m2 once it has the turn, and m3 once the value y is back in place of x
+  pub record Acts (p : Pass V F E K) (m1 m2 m3 : Me (Option V) (View F E)) (x y : V) (added : List E) : Type 0 where
+    pub drew : m1.0.sights ≡ p.seat.me.0.sights
+    pub finds : Finds K.fixed K.entries K.number m1 m2
+    pub took : m2.1 ≡ (0, Some x) ∷ []
+    pub put : m3 ≡ (m2.0, (0, Some y) ∷ [])
+    pub fixed_y : K.fixed y ≡ K.fixed x
+    pub entries_y : K.entries y ≡ K.entries x ++ added
+    pub signed : Each (λ e. K.number e ≡ p.number) added
+
+  module _ (p : Pass V F E K) (m1 m2 m3 : Me (Option V) (View F E)) (x y : V) (added : List E) (a : Acts p m1 m2 m3 x y added) where
+    found : x ≡ a.finds.value
+    found = let e : (0, Some x) ∷ [] ≡ m2.1 = sym a.took in let e' : m2.1 ≡ (0, Some a.finds.value) ∷ [] = ap (λ m. m.1) a.finds.now in ap (held_or x) (e ∙ e')
+
+    number_is : a.finds.sight.number ≡ p.number
+    number_is = let s : p.seat.me.0.sights ≡ a.finds.sight ∷ [] = sym a.drew ∙ a.finds.was in let e : a.finds.sight.number ∷ [] ≡ p.number ∷ [] = sym (ap (map number_in) s) ∙ p.numbered in
+        let h : a.finds.sight.number + 0 ≡ p.number + 0 = ap (total (λ k. k)) e in omega (arith, h)
+
+    abbrev after : Sight F E
+    after = grown (grown a.finds.sight a.finds.more) added
+
+    value_history : K.entries y ≡ a.finds.sight.began ++ ((a.finds.sight.since ++ a.finds.more) ++ added)
+    value_history = a.entries_y ∙ (ap (λ l. l ++ added) (ap K.entries found ∙ a.finds.entries_are) ∙ append_assoc a.finds.sight.began (a.finds.sight.since ++ a.finds.more) added)
+
+    pub signed_sight : Each (λ e. K.number e ≡ a.finds.sight.number) added
+    signed_sight = subst (λ n. Each (λ e. K.number e ≡ n) added) (sym number_is) a.signed
+
+    acting : m3 ≡ (alone (grown a.finds.sight a.finds.more) (Acting a.finds.ticket), (0, Some y) ∷ [])
+    acting = a.put ∙ ap (λ (m : Me (Option V) (View F E)). (m.0, (0, Some y) ∷ [])) a.finds.now
+
+    pub may_pass_on : (id slots : ℕ) (f : F) (b : List E) (callers : ℕ)
+        → Allows (Ruled K.fixed K.entries K.number f b callers) slots id m3 1 (λ n. (n + 1) % 2 ^ 64) (passed_on K.entries (step slots 1 1 0 maybe.none) m3)
+    may_pass_on id slots f b callers =
+        let P : Me (Option V) (View F E) → Type 0 = λ m. Allows (Ruled K.fixed K.entries K.number f b callers) slots id m 1 (λ n. (n + 1) % 2 ^ 64) (passed_on K.entries (step slots 1 1 0 maybe.none) m) in
+        subst P (sym acting) (passes_on K.fixed K.entries K.number f b callers id slots a.finds.ticket (grown a.finds.sight a.finds.more) y added a.finds.numbered
+            (a.fixed_y ∙ (ap K.fixed found ∙ a.finds.fixed_is)) value_history signed_sight)
+
+    -- the seat once the turn is passed on
+    pub passed : (m4 : Me (Option V) (View F E)) → m4 ≡ (view_after K.entries m3.0 m3.1, []) → m4 ≡ (alone after Idle, [])
+    passed m4 is =
+        let kept : drop (length a.finds.sight.began) (K.entries y) ≡ (a.finds.sight.since ++ a.finds.more) ++ added = ap (drop (length a.finds.sight.began)) value_history ∙ drop-append_seam a.finds.sight.began ((a.finds.sight.since ++ a.finds.more) ++ added) in
+        is ∙ (ap (λ (m : Me (Option V) (View F E)). (view_after K.entries m.0 m.1, [])) acting
+        ∙ (λ i. (record { sights = record { number = a.finds.sight.number; fixed = a.finds.sight.fixed; began = a.finds.sight.began; since = kept i } ∷ []; stage = Idle }, [])))
+
+    pub before_view : p.seat.me.0 ≡ alone a.finds.sight Idle
+    before_view = let s : p.seat.me.0.sights ≡ a.finds.sight ∷ [] = sym a.drew ∙ a.finds.was in λ i. record { sights = s i; stage = p.idle i }
+
+    module _ (q : Pass V F E K) (same_number : q.number ≡ p.number) (is : q.seat.me ≡ (alone after Idle, [])) where
+      after_view : q.seat.me.0 ≡ alone after Idle
+      after_view = ap (λ m. m.0) is
+
+      pub takes : (says : V → V → Type 0) → says x y → K.IsLegal (K.fixed y) (K.entries y) → TakesTurn says added p q
+      takes says said legal =
+          let t = a.finds.sight in
+          let seen_now : seen q ≡ K.entries y = ap (λ v. began_in v ++ since_in v) after_view ∙ sym value_history in
+          let seen_then : seen p ≡ t.began ++ t.since = ap (λ v. began_in v ++ since_in v) before_view in record {
+            before = x;
+            after = y;
+            others = a.finds.more;
+            not_mine = subst (λ n. entries_by K.number n a.finds.more ≡ []) number_is a.finds.others;
+            found = ap K.entries found ∙ (a.finds.entries_are ∙ (sym (append_assoc t.began t.since a.finds.more) ∙ ap (λ l. l ++ a.finds.more) (sym seen_then)));
+            left = a.entries_y;
+            seen_now = seen_now;
+            fixed_before = ap fixed_in before_view ∙ ap Some (sym a.finds.fixed_is ∙ ap K.fixed (sym found));
+            fixed_after = ap fixed_in after_view ∙ ap Some (sym a.finds.fixed_is ∙ (ap K.fixed (sym found) ∙ sym a.fixed_y));
+            legal = subst (K.IsLegal (K.fixed y)) (sym seen_now) legal;
+            said = said;
+          }
+
+      pub grows : mine q ≡ mine p ++ added
+      grows =
+          let t = a.finds.sight in
+          let n = p.number in
+          let others : entries_by K.number n a.finds.more ≡ [] = subst (λ n. entries_by K.number n a.finds.more ≡ []) number_is a.finds.others in
+          let e1 : mine q ≡ entries_by K.number n ((t.since ++ a.finds.more) ++ added) = ap₂ (λ m v. entries_by K.number m (since_in v)) same_number after_view in
+          let e2 : mine p ≡ entries_by K.number n t.since = ap (λ v. entries_by K.number n (since_in v)) before_view in
+          e1 ∙ (by_append K.number n (t.since ++ a.finds.more) added ∙ (ap₂ (λ l m. l ++ m) (by_append K.number n t.since a.finds.more ∙ (ap (λ l. entries_by K.number n t.since ++ l) others ∙ (append-nil (entries_by K.number n t.since) ∙ sym e2))) (by_all K.number n added a.signed)))
+
+      pub stays : q.seat.table_id ≡ p.seat.table_id → IsSamePass p q
+      stays table = (table, same_number, ap fixed_in after_view ∙ sym (ap fixed_in before_view), ap began_in after_view ∙ sym (ap began_in before_view))
