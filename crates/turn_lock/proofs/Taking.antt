@@ -1,5 +1,5 @@
 -- What a turn, a note and a meeting do to a pass.
-use Rattle.std.proofs.Common.{◌≡◌, ℕ, zero, suc, ◌+◌, ◌%◌, ◌^◌, ◌<◌, ◌≤◌, Option, Some, None, option_to_list, List, [], ◌∷◌, ◌++◌, map, length, drop, sym, refl, ap, ap₂, ◌∙◌, subst, arith, append-nil, append_assoc}
+use Rattle.std.proofs.Common.{◌≡◌, ℕ, zero, suc, ◌+◌, ◌%◌, ◌^◌, ◌<◌, ◌≤◌, Option, Some, None, option_to_list, List, [], ◌∷◌, ◌++◌, map, length, take, drop, sym, refl, ap, ap₂, ◌∙◌, subst, arith, append-nil, append_assoc}
 use Rattle.std.proofs.Math.Seq.{drop-append_seam}
 use mathlib.Core.Option as maybe
 use Rattle.atomic_table.specs.Table.{State, Me, step, Allows, Splits}
@@ -11,9 +11,9 @@ use Rattle.turn_lock.specs.declared.view.Stage.TheVariants.{Idle, Waiting, Actin
 use Rattle.turn_lock.specs.declared.view.View.{View}
 use Rattle.turn_lock.specs.Views.{BeginsWith, Each, entries_by, number_in, numbers_in, fixed_in, began_in, since_in, alone, grown, unnumbered}
 use Rattle.turn_lock.specs.Rule.{total, passes_in, IsTrueSight, Ruled}
-use Rattle.turn_lock.specs.Steps.{IsPassAt, Finds, Recalls, view_after, passed_on, joined, copied, noted}
-use Rattle.turn_lock.specs.Passes.{fixed_of, began, since, seen, mine, IsSamePass, TakesTurn}
-use Rattle.turn_lock.proofs.Entries.{by_append, by_all}
+use Rattle.turn_lock.specs.Steps.{IsPassAt, Finds, Recalls, view_after, passed_on, joined, copied, noted, kept_back, handed_out}
+use Rattle.turn_lock.proofs.Totals.{total_cut, each_cut}
+use Rattle.turn_lock.specs.Passes.{fixed_of, seen, TakesTurn}
 use Rattle.turn_lock.proofs.Keeps.{splits, recalls}
 use Rattle.turn_lock.proofs.TurnKeeps.{passes_on}
 
@@ -38,6 +38,9 @@ module _ {V F E : Type 0} (fixed : V → F) (entries : V → List E) (number : E
   pub copies : (id : ℕ) (v : View F E) → v.stage ≡ Idle → Splits (Ruled fixed entries number f b callers) id v (copied v) (noted v)
   copies id v idle = splits fixed entries number f b callers id v v.sights (map unnumbered v.sights) idle (λ g z. let h = no_numbers g z v.sights in omega (arith, h)) (λ s all. (all, all_unnumbered number f b s v.sights all))
 
+  pub cuts : (id : ℕ) (v : View F E) → v.stage ≡ Idle → Splits (Ruled fixed entries number f b callers) id v (kept_back v) (handed_out v)
+  cuts id v idle = splits fixed entries number f b callers id v (drop 1 v.sights) (take 1 v.sights) idle (λ g z. total_cut (λ (t : Sight F E). g t.number) v.sights) (λ s all. each_cut (IsTrueSight number f b s) v.sights all)
+
   -- the load behind a join
   pub recalls_at : (id slots i n : ℕ) (me : Me (Option V) (View F E)) (v w : View F E) (c : List (ℕ × Option V)) → me ≡ (joined v w, c) → numbers_in v ≡ n ∷ [] → 1 ≤ n → numbers_in w ≡ 0 ∷ []
       → Allows (Ruled fixed entries number f b callers) slots id me i (λ n. n) (λ n. Recalls number me)
@@ -51,6 +54,15 @@ module _ {V F E : Type 0} (fixed : V → F) (entries : V → List E) (number : E
 module _ {V F E : Type 0} where
   pub drew_sights : (m : Me (Option V) (View F E)) (ts : List (Sight F E)) (stage : Stage) (c : List (ℕ × Option V)) → m ≡ (record { sights = ts; stage = stage }, c) → m.0.sights ≡ ts
   drew_sights m ts stage c e = ap (λ m. m.0.sights) e
+
+  pub stage_in : (m : Me (Option V) (View F E)) (ts : List (Sight F E)) (stage : Stage) (c : List (ℕ × Option V)) → m ≡ (record { sights = ts; stage = stage }, c) → m.0.stage ≡ stage
+  stage_in m ts stage c e = ap (λ m. m.0.stage) e
+
+  pub is_alone : (m : Me (Option V) (View F E)) (t : Sight F E) (c : List (ℕ × Option V)) → m ≡ (alone t Idle, c) → (numbers_in m.0 ≡ t.number ∷ []) × (m.0.stage ≡ Idle) × (m.1 ≡ c)
+  is_alone m t c e = (ap (λ x. numbers_in x.0) e, ap (λ x. x.0.stage) e, ap (λ x. x.1) e)
+
+  pub is_note : (m : Me (Option V) (View F E)) (v : View F E) (n : ℕ) → m ≡ (noted v, []) → numbers_in v ≡ n ∷ [] → (numbers_in m.0 ≡ 0 ∷ []) × (m.0.stage ≡ Idle) × (m.1 ≡ [])
+  is_note m v n e one = let o = one_sight v.sights n one in (ap (λ x. numbers_in x.0) e ∙ ap (λ ts. map number_in (map unnumbered ts)) o.1, ap (λ x. x.0.stage) e, ap (λ x. x.1) e)
 
   pub put_back : (v : View F E) (m' m'' : Me (Option V) (View F E)) (c d : List (ℕ × Option V)) → m' ≡ (v, c) → m'' ≡ (m'.0, d) → m'' ≡ (v, d)
   put_back v m' m'' c d e e' = e' ∙ ap (λ x. (x.0, d)) e
@@ -133,14 +145,24 @@ module _ {V F E : Type 0} {K : Ghosts V F E} where
             said = said;
           }
 
-      pub grows : mine q ≡ mine p ++ added
-      grows =
-          let t = a.finds.sight in
-          let n = p.number in
-          let others : entries_by K.number n a.finds.more ≡ [] = subst (λ n. entries_by K.number n a.finds.more ≡ []) number_is a.finds.others in
-          let e1 : mine q ≡ entries_by K.number n ((t.since ++ a.finds.more) ++ added) = ap₂ (λ m v. entries_by K.number m (since_in v)) same_number after_view in
-          let e2 : mine p ≡ entries_by K.number n t.since = ap (λ v. entries_by K.number n (since_in v)) before_view in
-          e1 ∙ (by_append K.number n (t.since ++ a.finds.more) added ∙ (ap₂ (λ l m. l ++ m) (by_append K.number n t.since a.finds.more ∙ (ap (λ l. entries_by K.number n t.since ++ l) others ∙ (append-nil (entries_by K.number n t.since) ∙ sym e2))) (by_all K.number n added a.signed)))
+-- what a meeting tells a pass with the view v of a note with the view w
+module _ {V F E : Type 0} (number : E → ℕ) (m m' : Me (Option V) (View F E)) (v w : View F E) (n : ℕ) (c : List (ℕ × Option V)) where
+  pub meets : m ≡ (joined v w, c) → Recalls number m m' → numbers_in v ≡ n ∷ [] → numbers_in w ≡ 0 ∷ [] → BeginsWith (began_in m'.0 ++ since_in m'.0) (began_in w ++ since_in w)
+  meets is r one none =
+      let p = one_sight v.sights n one in
+      let q = one_sight w.sights 0 none in
+      let both : p.0 ∷ q.0 ∷ [] ≡ r.sight ∷ r.told ∷ [] = sym (λ k. p.1 k ++ q.1 k) ∙ (sym (ap (λ x. x.0.sights) is) ∙ r.was) in
+      let told : q.0 ≡ r.told = cc in
+      let theirs : w.sights ≡ r.told ∷ [] = q.1 ∙ ap (λ t. t ∷ []) told in
+      let seen_theirs : began_in w ++ since_in w ≡ r.told.began ++ r.told.since = ap (λ ts. (let x : View F E = record { sights = ts; stage = w.stage } in began_in x ++ since_in x)) theirs in
+      let seen_now : began_in m'.0 ++ since_in m'.0 ≡ r.sight.began ++ (r.sight.since ++ r.more) = ap (λ x. began_in x.0 ++ since_in x.0) r.now in
+      let more : List E = r.begins.0 in
+      (more, seen_now ∙ ((λ k. sym r.alike k ++ r.begins.1 k) ∙ (sym (append_assoc r.told.began r.told.since more) ∙ ap (λ l. l ++ more) (sym seen_theirs))))
 
-      pub stays : q.seat.table_id ≡ p.seat.table_id → IsSamePass p q
-      stays table = (table, same_number, ap fixed_in after_view ∙ sym (ap fixed_in before_view), ap began_in after_view ∙ sym (ap began_in before_view))
+  pub met_pass : m ≡ (joined v w, c) → Recalls number m m' → numbers_in v ≡ n ∷ [] → c ≡ [] → (numbers_in m'.0 ≡ n ∷ []) × (m'.0.stage ≡ Idle) × (m'.1 ≡ [])
+  met_pass is r one empty =
+      let p = one_sight v.sights n one in
+      let both : p.0 ∷ w.sights ≡ r.sight ∷ r.told ∷ [] = sym (λ k. p.1 k ++ w.sights) ∙ (sym (ap (λ x. x.0.sights) is) ∙ r.was) in
+      let mine : p.0 ≡ r.sight = cc in
+      let n_is : r.sight.number ≡ n = sym (ap (λ t. t.number) mine) ∙ p.2 in
+      (ap (λ x. numbers_in x.0) r.now ∙ ap (λ k. k ∷ []) n_is, ap (λ x. x.0.stage) r.now, ap (λ x. x.1) r.now ∙ (ap (λ x. x.1) is ∙ empty))

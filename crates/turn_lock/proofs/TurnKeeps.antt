@@ -39,7 +39,7 @@ not_number p h = let e : 0 ≢ p = (λ e. absurd (omega arith)) in same_else p 0
 apart_differs : (p q : ℕ) → same p q ≡ 0 → p ≢ q
 apart_differs p q z e = let h : same p q ≡ 1 = ap (same p) (sym e) ∙ same_here p in absurd (omega arith)
 
-some_is : (n : ℕ) → 1 ≤ n → one_each n ≡ 1
+pub some_is : (n : ℕ) → 1 ≤ n → one_each n ≡ 1
 some_is zero h = absurd (omega arith)
 some_is (suc n) h = refl
 

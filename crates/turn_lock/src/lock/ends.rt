@@ -26,7 +26,8 @@ impl<V: Kept> TurnLock<V> {
             opening: Snapshot::of(&value),
             callers,
         };
-        let slots = vec![in alloc; Some(value)]?;
+        let mut slots = Vec::with_capacity(alloc, 1)?;
+        slots.push(Some(value))?;
         let Ok((table, mut first)) = Table::new(alloc, &[0, 0], slots, &key) else {
             return Err(AllocError);
         };

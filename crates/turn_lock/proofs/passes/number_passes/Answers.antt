@@ -1,18 +1,23 @@
-use Rattle.std.proofs.Common.{rules, ◌≡◌, ◌+◌, ◌<◌, ℕ, [], Some, IfOk, length, slice_get, ◌-◌, ◌*◌, ◌≤◌, ◌/◌, ◌%◌, Bool, true, false, nat_eq, nat_lt, List, ◌∷◌, ◌++◌, slice_index_or, slice_set, bit_and, bit_or, Fits, w8, w32, w64, Bor, MutBor}
-use Rattle.turn_lock.specs.declared.view.Stage.TheVariants.{Idle}
-use Rattle.turn_lock.specs.Rule.{opening_view}
-use Rattle.turn_lock.specs.Passes.{lock_of, number_of, AreNew}
-use Rattle.turn_lock.specs.Gathering.{Gathers}
+use Rattle.std.proofs.Common.{◌∙◌, refl, arith}
+use Rattle.turn_lock.proofs.Taking.{cuts, stage_in, is_alone}
+use Rattle.turn_lock.proofs.Gathered.{handed, left_over, one_more}
 use Rattle.turn_lock.proofs.passes.number_passes.Goals as goal
 
--- src/passes.rt:26:13
 pub split_seat-seat-requires : goal.split_seat-seat-requires
-split_seat-seat-requires g c = ?
+split_seat-seat-requires g c = (
+  c.numbers.invariant.seat,
+  c.requires.lock.1,
+  cuts g.V.Kept.fixed g.V.Kept.entries g.V.Kept.number _ _ _ _ _ (stage_in _ _ _ _ c.numbers.invariant.stage),
+)
 
--- src/passes.rt:31:9
 pub invariant_of-pass : goal.invariant_of-pass
-invariant_of-pass g c = ?
+invariant_of-pass g c =
+    let h = is_alone _ _ _ (handed _ _ _ _ _ _ c.numbers.invariant.stage c.split_seat-seat.ensures.4 c.numbers-test.true) in record { numbered = h.0; counts = omega arith; idle = h.1; empty = h.2 }
 
--- src/passes.rt:25:5
 pub numbers-preserved : goal.numbers-preserved
-numbers-preserved g c = ?
+numbers-preserved g c = record {
+  seat = c.split_seat-seat.ensures.0 ∙ c.numbers.invariant.seat;
+  stage = left_over _ _ _ _ _ _ c.numbers.invariant.stage c.split_seat-seat.ensures.2 c.numbers-test.true;
+  made = one_more _ _ _ _ _ _ _ c.in_ok-push.ensures.items c.numbers.invariant.made (c.split_seat-seat.ensures.3 ∙ c.numbers.invariant.seat) refl
+      (handed _ _ _ _ _ _ c.numbers.invariant.stage c.split_seat-seat.ensures.4 c.numbers-test.true);
+}

@@ -1,15 +1,5 @@
-use Rattle.std.proofs.Common.{rules, ◌≡◌, ◌<◌, ◌≤◌, IfOk, ℕ, ◌+◌, ◌-◌, ◌*◌, length, ◌/◌, ◌%◌, Bool, true, false, nat_eq, nat_lt, List, [], ◌∷◌, ◌++◌, slice_index_or, slice_set, bit_and, bit_or, Fits, w8, w32, w64, Bor, MutBor}
-use Rattle.turn_lock.specs.Passes.{id_of, AreNew, AreAll, IsWhole}
+use Rattle.turn_lock.proofs.Gathered.{opens_at}
 use Rattle.turn_lock.proofs.lock.TurnLock.new.Goals as goal
 
--- src/lock/ends.rt:29:21
-pub vec-requires : goal.vec-requires
-vec-requires g c = ?
-
--- src/lock/ends.rt:29:21
-pub from_residual-requires-room-F-From : goal.from_residual-requires-room-F-From
-from_residual-requires-room-F-From g c κs within = ?
-
--- src/lock/ends.rt:30:38
 pub new-requires : goal.new-requires
-new-requires g c = ?
+new-requires g c = opens_at g.V.Kept.fixed g.V.Kept.entries g.V.Kept.number _ c.args.value _ _ _ c.requires.1 c.of.ensures c.in_ok-slots.ensures.items c.in_ok-push.ensures.items

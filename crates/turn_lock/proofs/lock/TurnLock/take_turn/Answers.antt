@@ -1,6 +1,6 @@
 use Rattle.std.proofs.Common.{◌∙◌, refl, arith, option_to_list}
 use Rattle.turn_lock.proofs.Keeps.{draws}
-use Rattle.turn_lock.proofs.Taking.{pass_at, each_option, drew_sights, put_back, Acts, may_pass_on, passed, takes, grows, stays}
+use Rattle.turn_lock.proofs.Taking.{pass_at, each_option, drew_sights, put_back, Acts, may_pass_on, passed, takes}
 use Rattle.turn_lock.proofs.lock.TurnLock.take_turn.Goals as goal
 
 pub fetch_add-ticket-requires : goal.fetch_add-ticket-requires
