@@ -1,5 +1,5 @@
 -- How the passes are made one by one, and joined one by one.
-use Rattle.std.proofs.Common.{◌≡◌, ◌≢◌, ◌⊎◌, ℕ, zero, suc, ◌+◌, ◌-◌, ◌<◌, ◌≤◌, Option, Some, None, List, [], ◌∷◌, ◌++◌, map, take, drop, length, slice_get, sym, refl, ap, ◌∙◌, subst, arith, inl, inr, ⊎_elim, append_assoc, append-nil, length-append}
+use Rattle.std.proofs.Common.{◌≡◌, ◌≢◌, ◌⊎◌, ℕ, zero, suc, ◌+◌, ◌-◌, ◌<◌, ◌≤◌, Option, Some, None, option_to_list, List, [], ◌∷◌, ◌++◌, map, take, drop, length, slice_get, sym, refl, ap, ◌∙◌, subst, arith, inl, inr, ⊎_elim, append_assoc, append-nil, length-append}
 use Rattle.std.specs.List.{range_with_len}
 use mathlib.Core.Option.{some, some-injective}
 use mathlib.Core.Logic.{dite}
@@ -33,6 +33,22 @@ module _ {A : Type 0} where
   get_here [] ys x p e = cc
   get_here (a ∷ xs) ys x p e = get_here xs ys x p e
 
+  at_here : (xs ys : List A) (x : A) → slice_get (xs ++ x ∷ ys) (length xs) ≡ Some x
+  at_here [] ys x = refl
+  at_here (a ∷ xs) ys x = at_here xs ys x
+
+  pub popped : (ps rest : List A) (o : Option A) (q : A) → ps ≡ rest ++ option_to_list o → o ≡ Some q → ps ≡ rest ++ q ∷ []
+  popped ps rest o q is some_q = is ∙ ap (λ x. rest ++ option_to_list x) some_q
+
+  pub at_last_place : (ps rest : List A) (q : A) → ps ≡ rest ++ q ∷ [] → slice_get ps (length rest) ≡ Some q
+  at_last_place ps rest q is = ap (λ l. slice_get l (length rest)) is ∙ at_here rest [] q
+
+  pub at_place : (ps items rest tail : List A) (q : A) → ps ≡ items ++ tail → items ≡ rest ++ q ∷ [] → slice_get ps (length rest) ≡ Some q
+  at_place ps items rest tail q whole is = ap (λ l. slice_get l (length rest)) (whole ∙ (ap (λ l. l ++ tail) is ∙ append_assoc rest (q ∷ []) tail)) ∙ at_here rest tail q
+
+  pub moved_on : (ps items rest tail : List A) (q : A) → ps ≡ items ++ tail → items ≡ rest ++ q ∷ [] → ps ≡ rest ++ (q ∷ tail)
+  moved_on ps items rest tail q whole is = whole ∙ (ap (λ l. l ++ tail) is ∙ append_assoc rest (q ∷ []) tail)
+
   get_front : (xs : List A) (x p : A) (k : ℕ) → slice_get (xs ++ x ∷ []) k ≡ Some p → (slice_get xs k ≡ Some p) ⊎ ((k ≡ length xs) × (x ≡ p))
   get_front [] x p zero e = inr (refl, cc)
   get_front [] x p (suc k) e = absurd cc
@@ -49,7 +65,7 @@ module _ {V F E : Type 0} {K : Ghosts V F E} where
   added lock k f es ps q made new = record {
     count = let c = made.count in omega (arith, length-append ps (q ∷ []), c);
     each = λ j p e. ⊎_elim (λ h. made.each j p h)
-        (λ h. let j_is : j ≡ k = h.0 ∙ made.count in subst (λ (z : ℕ × P). IsNewPass lock (z.0 + 1) f es z.1) (λ i. (sym j_is i, h.1 i)) new) (get_front ps q p j e);
+        (λ h. let j_is : j ≡ k = h.0 ∙ made.count in subst (λ (z : ℕ × Pass V F E K). IsNewPass lock (z.0 + 1) f es z.1) (λ i. (sym j_is i, h.1 i)) new) (get_front ps q p j e);
   }
 
   pub one_more : (lock : TableId) (k : ℕ) (f : F) (es : List E) (ps ps' : List (Pass V F E K)) (q : Pass V F E K) → ps' ≡ ps ++ q ∷ [] → AreNew lock k f es ps
@@ -80,8 +96,8 @@ module _ {V F E : Type 0} {K : Ghosts V F E} where
     count = let o = one_in q in let l : length ps ≡ length (rest ++ q ∷ []) = ap length is in omega (arith, o, l, length-append rest (q ∷ []));
   }
 
-  pub goes_on : (ps rest tail : List (Pass V F E K)) (q : Pass V F E K) (v : View F E) → ps ≡ (rest ++ q ∷ []) ++ tail → GathersFrom (length (rest ++ q ∷ [])) ps v → GathersFrom (length rest) ps (joined v q.seat.me.0)
-  goes_on ps rest tail q v is so_far =
+  goes_on_here : (ps rest tail : List (Pass V F E K)) (q : Pass V F E K) (v : View F E) → ps ≡ (rest ++ q ∷ []) ++ tail → GathersFrom (length (rest ++ q ∷ [])) ps v → GathersFrom (length rest) ps (joined v q.seat.me.0)
+  goes_on_here ps rest tail q v is so_far =
       let l : length (rest ++ q ∷ []) ≡ length rest + 1 = length-append rest (q ∷ []) in record {
         each = λ k p low at. places rest tail q p ps k (Knows (joined v q.seat.me.0) p) is low at
             (λ e. subst (Knows (joined v q.seat.me.0)) e (let o = one_sight q.seat.me.0.sights q.number q.numbered in record {
@@ -94,8 +110,15 @@ module _ {V F E : Type 0} {K : Ghosts V F E} where
         count = let o = one_in q in let c = so_far.count in let t = total_append (λ (t : Sight F E). one_each t.number) v.sights q.seat.me.0.sights in omega (arith, o, c, t, l);
       }
 
+  pub goes_on : (ps items rest tail : List (Pass V F E K)) (q : Pass V F E K) (v v' : View F E) → ps ≡ items ++ tail → items ≡ rest ++ q ∷ [] → v' ≡ joined v q.seat.me.0 → GathersFrom (length items) ps v → GathersFrom (length rest) ps v'
+  goes_on ps items rest tail q v v' whole is now so_far =
+      subst (GathersFrom (length rest) ps) (sym now) (goes_on_here ps rest tail q v (whole ∙ ap (λ l. l ++ tail) is) (subst (λ l. GathersFrom (length l) ps v) is so_far))
+
+  pub all_in : (n : ℕ) (ps : List (Pass V F E K)) (v : View F E) → n ≡ 0 → GathersFrom n ps v → Gathers ps v
+  all_in n ps v none h = subst (λ k. GathersFrom k ps v) none h
+
   -- what is known at the end, when one seat has gathered all passes
-  pub ends : (f : F) (b : List E) (callers id : ℕ) (v : View F E) (ps : List (Pass V F E K)) (ws : List ℕ) (xs : List (Option V)) (slot : Option V)
+  ends : (f : F) (b : List E) (callers id : ℕ) (v : View F E) (ps : List (Pass V F E K)) (ws : List ℕ) (xs : List (Option V)) (slot : Option V)
       → Final (Seen (Ruled K.fixed K.entries K.number f b callers) id v) ws xs → v.stage ≡ Idle → Gathers ps v → length ps ≡ callers → get_elem? xs 0 ≡ some slot
       → (x : V) × (slot ≡ Some x) × IsWhole x ps
   ends f b callers id v ps ws xs slot fin idle all count at =
@@ -124,6 +147,19 @@ module _ {V F E : Type 0} {K : Ghosts V F E} where
               subst (λ n. entries_by K.number n r.since ≡ entries_by K.number n g.0.since) n_is (g.2.own counts) ∙ ap (entries_by K.number p.number) (sym (ap since_in (view_of p g.0 g.1)));
         },
       )
+
+  pub ends_some : (f : F) (b : List E) (callers id : ℕ) (v : View F E) (ps : List (Pass V F E K)) (ws : List ℕ) (xs : List (Option V)) (slot : Option V) (y : V)
+      → Final (Seen (Ruled K.fixed K.entries K.number f b callers) id v) ws xs → v.stage ≡ Idle → Gathers ps v → length ps ≡ callers → get_elem? xs 0 ≡ some slot → slot ≡ Some y → IsWhole y ps
+  ends_some f b callers id v ps ws xs slot y fin idle all count at is =
+      let r = ends f b callers id v ps ws xs slot fin idle all count at in
+      let e : Some r.0 ≡ Some y = sym r.1 ∙ is in
+      let same_value : r.0 ≡ y = cc in subst (λ x. IsWhole x ps) same_value r.2
+
+  pub ends_none : (f : F) (b : List E) (callers id : ℕ) (v : View F E) (ps : List (Pass V F E K)) (ws : List ℕ) (xs : List (Option V)) (slot : Option V)
+      → Final (Seen (Ruled K.fixed K.entries K.number f b callers) id v) ws xs → v.stage ≡ Idle → Gathers ps v → length ps ≡ callers → get_elem? xs 0 ≡ some slot → slot ≡ None → ⊥
+  ends_none f b callers id v ps ws xs slot fin idle all count at is =
+      let r = ends f b callers id v ps ws xs slot fin idle all count at in
+      let e : Some r.0 ≡ None = sym r.1 ∙ is in cc
 
 -- the first view as its numbers are handed out
 module _ {V F E : Type 0} (f : F) (es : List E) (n k : ℕ) (m : Me (Option V) (View F E)) where

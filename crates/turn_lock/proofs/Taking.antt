@@ -58,6 +58,12 @@ module _ {V F E : Type 0} where
   pub stage_in : (m : Me (Option V) (View F E)) (ts : List (Sight F E)) (stage : Stage) (c : List (ℕ × Option V)) → m ≡ (record { sights = ts; stage = stage }, c) → m.0.stage ≡ stage
   stage_in m ts stage c e = ap (λ m. m.0.stage) e
 
+  pub view_in : (m : Me (Option V) (View F E)) (v : View F E) (c : List (ℕ × Option V)) → m ≡ (v, c) → m.0 ≡ v
+  view_in m v c e = ap (λ m. m.0) e
+
+  pub slots_in : (m : Me (Option V) (View F E)) (v : View F E) (c : List (ℕ × Option V)) → m ≡ (v, c) → m.1 ≡ c
+  slots_in m v c e = ap (λ m. m.1) e
+
   pub is_alone : (m : Me (Option V) (View F E)) (t : Sight F E) (c : List (ℕ × Option V)) → m ≡ (alone t Idle, c) → (numbers_in m.0 ≡ t.number ∷ []) × (m.0.stage ≡ Idle) × (m.1 ≡ c)
   is_alone m t c e = (ap (λ x. numbers_in x.0) e, ap (λ x. x.0.stage) e, ap (λ x. x.1) e)
 
