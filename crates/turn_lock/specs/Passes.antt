@@ -12,6 +12,10 @@ use Rattle.turn_lock.specs.Rule.{IsBy}
 abbrev pub id_of : {V F E : Type 0} → TurnLock V F E → TableId
 id_of l = l.table.shared.table_id
 
+-- how many passes the lock has
+abbrev pub callers_of : {V F E : Type 0} → TurnLock V F E → ℕ
+callers_of l = l.callers
+
 module _ {V F E : Type 0} {K : Ghosts V F E} where
   -- which lock the pass is of
   abbrev pub lock_of : Pass V F E K → TableId

@@ -6,6 +6,8 @@ mod lock;
 mod pass;
 mod passes;
 mod rule;
+#[cfg(test)]
+mod tests;
 mod turns;
 mod view;
 

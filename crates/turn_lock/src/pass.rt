@@ -34,9 +34,11 @@ pub struct Note<V: Kept> {
 }
 
 impl<V: Kept> Pass<V> {
+    ghost use Rattle.turn_lock.specs.Passes.{number_of};
+
     /// The pass's number, from 1 to the number of callers.
     pub fn number(&self) -> u32
-        ensures { result ≡ self.now.number }
+        ensures { result ≡ number_of self.now }
     {
         self.number
     }

@@ -1,6 +1,6 @@
 //! How a lock begins and ends.
 ghost use Rattle.std.specs.Prelude.{◌≡◌, ◌<◌, ◌≤◌, IfOk};
-ghost use Rattle.turn_lock.specs.Passes.{id_of, AreNew, AreAll, IsWhole};
+ghost use Rattle.turn_lock.specs.Passes.{id_of, callers_of, AreNew, AreAll, IsWhole};
 
 use super::TurnLock;
 use crate::kept::Kept;
@@ -19,7 +19,7 @@ impl<V: Kept> TurnLock<V> {
         callers: u32,
     ) -> Result<(TurnLock<V>, Passes<V>), AllocError>
         requires { (1 ≤ callers) × (callers ≤ 64) }
-        ensures callers { IfOk result (λ r. r.0.callers ≡ callers) }
+        ensures callers { IfOk result (λ r. callers_of r.0 ≡ callers) }
         ensures passes { IfOk result (λ r. AreNew (id_of r.0) callers (V.fixed value) (V.entries value) r.1.list.items) }
     {
         let key = Key {
@@ -37,7 +37,7 @@ impl<V: Kept> TurnLock<V> {
 
     /// Ends the lock, with all its passes, and gives the value back with the whole history.
     pub fn close(self, passes: Passes<V>) -> V
-        requires { AreAll (id_of self) self.callers passes.list.items }
+        requires { AreAll (id_of self) (callers_of self) passes.list.items }
         ensures { IsWhole result passes.list.items }
     {
         let TurnLock { table, callers: _ } = self;
