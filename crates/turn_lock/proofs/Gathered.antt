@@ -1,5 +1,5 @@
 -- How the passes are made one by one, and joined one by one.
-use Rattle.std.proofs.Common.{◌≡◌, ◌≢◌, ◌⊎◌, ℕ, zero, suc, ◌+◌, ◌-◌, ◌<◌, ◌≤◌, Option, Some, None, option_to_list, List, [], ◌∷◌, ◌++◌, map, take, drop, length, slice_get, sym, refl, ap, ◌∙◌, subst, arith, inl, inr, ⊎_elim, append_assoc, append-nil, length-append}
+use Rattle.std.proofs.Common.{◌≡◌, ◌≢◌, ◌⊎◌, ℕ, zero, suc, ◌+◌, ◌-◌, ◌<◌, ◌≤◌, Option, Some, None, option_to_list, List, [], ◌∷◌, ◌++◌, map, take, drop, length, slice_get, slice_index_or, All, sym, refl, ap, ◌∙◌, subst, arith, inl, inr, ⊎_elim, append_assoc, append-nil, length-append}
 use Rattle.std.specs.List.{range_with_len}
 use mathlib.Core.Option.{some, some-injective}
 use mathlib.Core.Logic.{dite}
@@ -49,6 +49,17 @@ module _ {A : Type 0} where
   pub moved_on : (ps items rest tail : List A) (q : A) → ps ≡ items ++ tail → items ≡ rest ++ q ∷ [] → ps ≡ rest ++ (q ∷ tail)
   moved_on ps items rest tail q whole is = whole ∙ (ap (λ l. l ++ tail) is ∙ append_assoc rest (q ∷ []) tail)
 
+  -- the item at k, in the words of the public contracts
+  item_get : (xs : List A) (k : ℕ) (d : A) → k < length xs → slice_get xs k ≡ Some (slice_index_or xs k d)
+  item_get [] k d h = absurd (omega arith)
+  item_get (x ∷ xs) zero d h = refl
+  item_get (x ∷ xs) (suc k) d h = item_get xs k d (omega arith)
+
+  get_item : (xs : List A) (k : ℕ) (p : A) → slice_get xs k ≡ Some p → (k < length xs) × (slice_index_or xs k p ≡ p)
+  get_item [] k p e = absurd cc
+  get_item (x ∷ xs) zero p e = let h : x ≡ p = cc in (omega arith, h)
+  get_item (x ∷ xs) (suc k) p e = let h = get_item xs k p e in let l = h.0 in (omega (arith, l), h.1)
+
   get_front : (xs : List A) (x p : A) (k : ℕ) → slice_get (xs ++ x ∷ []) k ≡ Some p → (slice_get xs k ≡ Some p) ⊎ ((k ≡ length xs) × (x ≡ p))
   get_front [] x p zero e = inr (refl, cc)
   get_front [] x p (suc k) e = absurd cc
@@ -61,11 +72,14 @@ module _ {A : Type 0} where
   none_there (a ∷ xs) (suc k) p e h = none_there xs k p e (omega arith)
 
 module _ {V F E : Type 0} {K : Ghosts V F E} where
+  pub lock_get : (lock : TableId) (ps : List (Pass V F E K)) (k : ℕ) (p : Pass V F E K) → All (λ q. q.seat.table_id ≡ lock) ps → slice_get ps k ≡ Some p → p.seat.table_id ≡ lock
+  lock_get lock ps k p all e = let h = get_item ps k p e in subst (λ q. q.seat.table_id ≡ lock) h.1 (all k p h.0)
+
   added : (lock : TableId) (k : ℕ) (f : F) (es : List E) (ps : List (Pass V F E K)) (q : Pass V F E K) → AreNew lock k f es ps → IsNewPass lock (k + 1) f es q → AreNew lock (k + 1) f es (ps ++ q ∷ [])
   added lock k f es ps q made new = record {
     count = let c = made.count in omega (arith, length-append ps (q ∷ []), c);
-    each = λ j p e. ⊎_elim (λ h. made.each j p h)
-        (λ h. let j_is : j ≡ k = h.0 ∙ made.count in subst (λ (z : ℕ × Pass V F E K). IsNewPass lock (z.0 + 1) f es z.1) (λ i. (sym j_is i, h.1 i)) new) (get_front ps q p j e);
+    each = λ j d l. let p = slice_index_or (ps ++ q ∷ []) j d in ⊎_elim (λ h. let g = get_item ps j p h in subst (IsNewPass lock (j + 1) f es) g.1 (made.each j p g.0))
+        (λ h. let j_is : j ≡ k = h.0 ∙ made.count in subst (λ (z : ℕ × Pass V F E K). IsNewPass lock (z.0 + 1) f es z.1) (λ i. (sym j_is i, h.1 i)) new) (get_front ps q p j (item_get (ps ++ q ∷ []) j d l));
   }
 
   pub one_more : (lock : TableId) (k : ℕ) (f : F) (es : List E) (ps ps' : List (Pass V F E K)) (q : Pass V F E K) → ps' ≡ ps ++ q ∷ [] → AreNew lock k f es ps
@@ -135,16 +149,20 @@ module _ {V F E : Type 0} {K : Ghosts V F E} where
         record {
           later = r.since;
           authors = subst (λ n. Each (IsBy K.number n) r.since) (sym count) r.authors;
-          fixed = λ k p e. let g = sight_of p (all.each k p (omega arith) e) in ap fixed_in (view_of p g.0 g.1) ∙ ap Some (g.2.fixed ∙ sym home.fixed_is);
-          whole = λ k p e. let g = sight_of p (all.each k p (omega arith) e) in home.entries_are ∙ ap (λ l. l ++ r.since) (sym (ap began_in (view_of p g.0 g.1) ∙ g.2.began_is));
-          prefix = λ k p e. let g = sight_of p (all.each k p (omega arith) e) in (g.2.prefix.0, g.2.prefix.1 ∙ ap (λ l. l ++ g.2.prefix.0) (sym (ap since_in (view_of p g.0 g.1))));
-          own = λ k p e.
-              let g = sight_of p (all.each k p (omega arith) e) in
+          each = λ k d l.
+              let p = slice_index_or ps k d in
+              let known = all.each k p (omega arith) (item_get ps k d l) in
+              let g = sight_of p known in
               let o = one_sight p.seat.me.0.sights p.number p.numbered in
               let t_is : o.0 ≡ g.0 = (let a : o.0 ∷ [] ≡ g.0 ∷ [] = sym o.1 ∙ g.1 in cc) in
               let n_is : g.0.number ≡ p.number = sym (ap (λ t. t.number) t_is) ∙ o.2 in
               let counts : 1 ≤ g.0.number = (let c = p.counts in omega (arith, n_is, c)) in
-              subst (λ n. entries_by K.number n r.since ≡ entries_by K.number n g.0.since) n_is (g.2.own counts) ∙ ap (entries_by K.number p.number) (sym (ap since_in (view_of p g.0 g.1)));
+              let v_is = view_of p g.0 g.1 in record {
+                fixed = ap fixed_in v_is ∙ ap Some (g.2.fixed ∙ sym home.fixed_is);
+                whole = home.entries_are ∙ ap (λ l. l ++ r.since) (sym (ap began_in v_is ∙ g.2.began_is));
+                prefix = (g.2.prefix.0, g.2.prefix.1 ∙ ap (λ l. l ++ g.2.prefix.0) (sym (ap since_in v_is)));
+                own = subst (λ n. entries_by K.number n r.since ≡ entries_by K.number n g.0.since) n_is (g.2.own counts) ∙ ap (entries_by K.number p.number) (sym (ap since_in v_is));
+              };
         },
       )
 

@@ -1,5 +1,5 @@
 -- The words of the public contracts.
-use Rattle.std.specs.Prelude.{◌≡◌, ℕ, ◌+◌, ◌≤◌, Option, Some, List, [], ◌∷◌, ◌++◌, length, slice_get}
+use Rattle.std.specs.Prelude.{◌≡◌, ℕ, ◌+◌, ◌<◌, ◌≤◌, Option, Some, List, [], ◌∷◌, ◌++◌, length, slice_index_or, All}
 use Rattle.atomic_table.specs.Seated.{TableId}
 use Rattle.turn_lock.specs.declared.kept.Kept.{Ghosts}
 use Rattle.turn_lock.specs.declared.pass.Pass.{Pass}
@@ -58,15 +58,16 @@ module _ {V F E : Type 0} {K : Ghosts V F E} where
   abbrev pub IsNewPass : TableId → ℕ → F → List E → Pass V F E K → Type 0
   IsNewPass lock n f es p = (lock_of p ≡ lock) × (number_of p ≡ n) × (fixed_of p ≡ Some f) × (began p ≡ es) × (since p ≡ [])
 
-  -- new passes for so many callers
+  -- new passes for so many callers, by rising number from 1 on
   pub record AreNew (lock : TableId) (callers : ℕ) (f : F) (es : List E) (ps : List (Pass V F E K)) : Type 0 where
     pub count : length ps ≡ callers
-    pub each : (k : ℕ) (p : Pass V F E K) → slice_get ps k ≡ Some p → IsNewPass lock (k + 1) f es p
+    pub each : (k : ℕ) (d : Pass V F E K) → k < length ps → IsNewPass lock (k + 1) f es (slice_index_or ps k d)
 
   -- they are the passes of this lock, by rising number from 1 on
   pub record AreAll (lock : TableId) (callers : ℕ) (ps : List (Pass V F E K)) : Type 0 where
     pub count : length ps ≡ callers
-    pub each : (k : ℕ) (p : Pass V F E K) → slice_get ps k ≡ Some p → (lock_of p ≡ lock) × (number_of p ≡ k + 1)
+    pub of_lock : All (λ p. lock_of p ≡ lock) ps
+    pub numbers : (k : ℕ) (d : Pass V F E K) → k < length ps → number_of (slice_index_or ps k d) ≡ k + 1
 
   -- whatever the value is when the turn comes, p may act on it: its fixed data are the pass's,
   -- and its history is legal, begins with what p has seen, and has no entry of p behind that
@@ -87,12 +88,16 @@ module _ {V F E : Type 0} {K : Ghosts V F E} where
     pub legal : K.IsLegal (K.fixed after) (seen q)
     pub said : says before after
 
-  -- The whole history of a value: what the lock began with, and then entries of the passes. Each pass has seen a beginning of it,
-  -- and those of its entries that have the pass's number are the pass's own
+  -- the value stands for the pass's fixed data, and for what the lock began with and then the entries `later`.
+  -- The pass has seen a beginning of that, and those of `later` that have the pass's number are its own
+  pub record IsPartOf (value : V) (later : List E) (p : Pass V F E K) : Type 0 where
+    pub fixed : fixed_of p ≡ Some (K.fixed value)
+    pub whole : K.entries value ≡ began p ++ later
+    pub prefix : BeginsWith later (since p)
+    pub own : entries_by K.number (number_of p) later ≡ mine p
+
+  -- the value stands for the whole history of these passes: each entry that is later than the lock's beginning has the number of one of them
   pub record IsWhole (value : V) (ps : List (Pass V F E K)) : Type 0 where
     pub later : List E
     pub authors : Each (IsBy K.number (length ps)) later
-    pub fixed : (k : ℕ) (p : Pass V F E K) → slice_get ps k ≡ Some p → fixed_of p ≡ Some (K.fixed value)
-    pub whole : (k : ℕ) (p : Pass V F E K) → slice_get ps k ≡ Some p → K.entries value ≡ began p ++ later
-    pub prefix : (k : ℕ) (p : Pass V F E K) → slice_get ps k ≡ Some p → BeginsWith later (since p)
-    pub own : (k : ℕ) (p : Pass V F E K) → slice_get ps k ≡ Some p → entries_by K.number p.number later ≡ mine p
+    pub each : All (IsPartOf value later) ps

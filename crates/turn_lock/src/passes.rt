@@ -1,8 +1,8 @@
 //! The passes of a lock: how they are numbered, and how they come together at its end.
-ghost use Rattle.std.specs.Prelude.{◌≡◌, ◌+◌, ◌<◌, ℕ, [], Some, IfOk, length, slice_get};
+ghost use Rattle.std.specs.Prelude.{◌≡◌, ◌+◌, ◌<◌, [], All, IfOk, length};
 ghost use Rattle.turn_lock.specs.declared.view.Stage.TheVariants.{Idle};
 ghost use Rattle.turn_lock.specs.Rule.{opening_view};
-ghost use Rattle.turn_lock.specs.Passes.{lock_of, number_of, AreNew};
+ghost use Rattle.turn_lock.specs.Passes.{lock_of, AreNew};
 ghost use Rattle.turn_lock.specs.Gathering.{Gathers};
 
 use crate::kept::Kept;
@@ -37,7 +37,7 @@ pub fn number_passes<V: Kept>(
 pub fn gather<V: Kept>(board: &Board<V>, mut list: Vec<Pass<V>>) -> Place<V>
     requires lock { 0 < board.now.table_id.words }
     requires some { 0 < length list.items }
-    requires each { (k : ℕ) (p : _) → slice_get list.items k ≡ Some p → (lock_of p ≡ board.now.table_id) × (number_of p ≡ k + 1) }
+    requires each { All (λ p. lock_of p ≡ board.now.table_id) list.items }
     ensures seat { (result.table_id ≡ board.now.table_id) × (result.me.0.stage ≡ Idle) × (result.me.1 ≡ []) }
     ensures all { Gathers list.items result.me.0 }
 {

@@ -71,29 +71,38 @@ impl Act<Sums> for Add {
 }
 
 // Takes two turns.
-fn take_two<R: Wait>(rt: &R, lock: &TurnLock<Sums>, pass: &mut Pass<Sums>)
-    requires { lock_of pass.old ≡ id_of lock.now }
-    ensures { IsSamePass pass.old pass.new }
+fn take_two<R: Wait>(rt: &R, lock: &TurnLock<Sums>, mut pass: Pass<Sums>) -> Pass<Sums>
+    requires { lock_of pass ≡ id_of lock.now }
+    ensures { IsSamePass pass result }
 {
     let number = pass.number();
-    lock.take_turn(rt, pass, Add { number });
-    lock.take_turn(rt, pass, Add { number });
+    lock.take_turn(rt, &mut pass, Add { number });
+    lock.take_turn(rt, &mut pass, Add { number });
+    pass
 }
 
 // Each pass takes two turns, in a thread of its own.
-fn round<R: Threads + Wait + Sync>(rt: &R, lock: &TurnLock<Sums>, passes: &mut [Pass<Sums>])
-    requires { All (λ p. lock_of p ≡ id_of lock.now) passes.old }
-    ensures { (k : ℕ) (p : _) → k < length passes.old → IsSamePass (slice_index_or passes.old k p) (slice_index_or passes.new k p) }
+fn round<R: Threads + Wait + Sync>(
+    rt: &R,
+    lock: &TurnLock<Sums>,
+    first: Pass<Sums>,
+    second: Pass<Sums>,
+) -> (Pass<Sums>, Pass<Sums>)
+    requires first { lock_of first ≡ id_of lock.now }
+    requires second { lock_of second ≡ id_of lock.now }
+    ensures { IsSamePass first result.0 × IsSamePass second result.1 }
 {
-    thread::for_each_mut(
+    thread::join(
         rt,
-        passes,
-        2,
-        &|_: usize, pass: &mut Pass<Sums>|
-            requires { lock_of pass.old ≡ id_of lock.now }
-            ensures { IsSamePass pass.old pass.new }
-        { take_two(rt, lock, pass) },
-    );
+        || -> Pass<Sums>
+            requires { lock_of first ≡ id_of lock.now }
+            ensures { IsSamePass first result }
+        { take_two(rt, lock, first) },
+        || -> Pass<Sums>
+            requires { lock_of second ≡ id_of lock.now }
+            ensures { IsSamePass second result }
+        { take_two(rt, lock, second) },
+    )
 }
 
 #[test]
@@ -103,22 +112,26 @@ fn two_callers_make_eight_pairs(rt: HostRuntime) -> Result<(), Fail> {
     };
     let (lock, passes) = TurnLock::new(rt.alloc(), value, 2)?;
     let Passes { mut list } = passes;
-    round(&rt, &lock, list.as_mut_slice());
-    let note = lock.note(&mut list[0]);
-    lock.meet(&mut list[1], note);
-    round(&rt, &lock, list.as_mut_slice());
+    let second = list.pop().unwrap();
+    let first = list.pop().unwrap();
+    let (mut first, mut second) = round(&rt, &lock, first, second);
+    let note = lock.note(&mut first);
+    lock.meet(&mut second, note);
+    let (first, second) = round(&rt, &lock, first, second);
+    list.push(first)?;
+    list.push(second)?;
     let value = lock.close(Passes { list });
     assert_eq!(rt; value.pairs.len(), 8);
     let mut sum = 0;
-    let mut first = 0;
+    let mut of_first = 0;
     for pair in value.pairs.as_slice() {
         sum += pair.number as u64;
         assert_eq!(rt; pair.sum, sum);
         if pair.number == 1 {
-            first += 1;
+            of_first += 1;
         }
     }
-    assert_eq!(rt; first, 4);
+    assert_eq!(rt; of_first, 4);
     assert_eq!(rt; sum, 12);
     Ok(())
 }

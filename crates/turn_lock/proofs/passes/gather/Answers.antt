@@ -1,7 +1,7 @@
 use Rattle.std.proofs.Common.{◌≡◌, ◌∙◌, ◌++◌, ◌∷◌, [], length, rules}
 use Rattle.turn_lock.proofs.Keeps.{joins}
 use Rattle.turn_lock.proofs.Taking.{stage_in, view_in, slots_in}
-use Rattle.turn_lock.proofs.Gathered.{popped, at_last_place, at_place, moved_on, starts, goes_on, all_in}
+use Rattle.turn_lock.proofs.Gathered.{popped, at_last_place, at_place, moved_on, lock_get, starts, goes_on, all_in}
 use Rattle.turn_lock.proofs.passes.gather.Goals as goal
 
 pub passes-init : goal.passes-init
@@ -9,7 +9,7 @@ passes-init g c =
     let q = c.unwrap-seat.result in
     let is : c.args.list.items ≡ c.pop.new.self.items ++ q ∷ [] = popped _ _ _ _ c.pop.ensures.items c.unwrap-seat.ensures in record {
       left = (q ∷ [], is);
-      seat = (c.requires.each _ q (at_last_place _ _ _ is)).0;
+      seat = lock_get _ _ _ q c.requires.each (at_last_place _ _ _ is);
       idle = q.idle;
       empty = q.empty;
       known = starts _ _ q is;
@@ -18,7 +18,7 @@ passes-init g c =
 pub join_seat-requires : goal.join_seat-requires
 join_seat-requires g c = (
   c.passes.invariant.seat,
-  (c.requires.each _ c.in-Some.pass (at_place _ _ _ _ _ c.passes.invariant.left.1 c.in-Some.ensures.items)).0,
+  lock_get _ _ _ c.in-Some.pass c.requires.each (at_place _ _ _ _ _ c.passes.invariant.left.1 c.in-Some.ensures.items),
   c.in-Some.pass.empty,
   c.requires.lock,
   joins g.V.Kept.fixed g.V.Kept.entries g.V.Kept.number _ _ _ _ _ _ _ c.passes.invariant.idle c.in-Some.pass.idle,
