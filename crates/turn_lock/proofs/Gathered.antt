@@ -142,7 +142,7 @@ module _ {V F E : Type 0} {K : Ghosts V F E} where
       let home = rests K.fixed K.entries K.number f b callers s r id v here idle (let c = all.count in omega (arith, c, count)) in
       let good : IsTrueView K.number f b r.since r.served v = each_at (IsTrueView K.number f b r.since r.served) s.views id v r.views here in
       let sight_of : (p : Pass V F E K) → Knows v p → (t : Sight F E) × (p.seat.me.0.sights ≡ t ∷ []) × IsTrueSight K.number f b r.since t =
-          λ p h. (h.sight, h.alone, each_at (IsTrueSight K.number f b r.since) v.sights h.place h.sight good.sights h.there) in
+      λ p h. (h.sight, h.alone, each_at (IsTrueSight K.number f b r.since) v.sights h.place h.sight good.sights h.there) in
       let view_of : (p : Pass V F E K) (t : Sight F E) → p.seat.me.0.sights ≡ t ∷ [] → p.seat.me.0 ≡ record { sights = t ∷ []; stage = Idle } = λ p t e. λ i. record { sights = e i; stage = p.idle i } in (
         home.value,
         some-injective slot (Some home.value) (sym at ∙ fin.4 0 (Some home.value) (ap (λ hs. get_elem? hs 0) home.there)),

@@ -117,7 +117,7 @@ module _ {V F E : Type 0} {K : Ghosts V F E} where
     may_pass_on id slots f b callers =
         let P : Me (Option V) (View F E) → Type 0 = λ m. Allows (Ruled K.fixed K.entries K.number f b callers) slots id m 1 (λ n. (n + 1) % 2 ^ 64) (passed_on K.entries (step slots 1 1 0 maybe.none) m) in
         subst P (sym acting) (passes_on K.fixed K.entries K.number f b callers id slots a.finds.ticket (grown a.finds.sight a.finds.more) y added a.finds.numbered
-            (a.fixed_y ∙ (ap K.fixed found ∙ a.finds.fixed_is)) value_history signed_sight)
+        (a.fixed_y ∙ (ap K.fixed found ∙ a.finds.fixed_is)) value_history signed_sight)
 
     -- the seat once the turn is passed on
     pub passed : (m4 : Me (Option V) (View F E)) → m4 ≡ (view_after K.entries m3.0 m3.1, []) → m4 ≡ (alone after Idle, [])

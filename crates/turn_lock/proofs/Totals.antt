@@ -77,8 +77,10 @@ module _ {A : Type 0} where
       → ((x : A) → P x → ((f : A → ℕ) → f x + f a ≤ total f l) → Q x) → Each Q (set l i b)
   each_but P Q [] i a b all e q go = tt
   each_but P Q (x ∷ xs) zero a b all e q go = (q, each_within P Q xs all.1 (λ y p h. go y p (λ f. let k = h f in let k' : f x ≡ f a = ap f (some-injective x a e) in omega (arith, k))))
-  each_but P Q (x ∷ xs) (suc i) a b all e q go = (go x all.0 (λ f. let k = total_has f xs i a e in omega (arith, k)),
-      each_but P Q xs i a b all.1 e q (λ y p h. go y p (λ f. let k = h f in omega (arith, k))))
+  each_but P Q (x ∷ xs) (suc i) a b all e q go = (
+    go x all.0 (λ f. let k = total_has f xs i a e in omega (arith, k)),
+    each_but P Q xs i a b all.1 e q (λ y p h. go y p (λ f. let k = h f in omega (arith, k))),
+  )
 
 -- 1 at t alone
 abbrev pub same : ℕ → ℕ → ℕ

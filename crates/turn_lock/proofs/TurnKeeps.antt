@@ -82,7 +82,7 @@ module _ {V F E : Type 0} (fixed : V → F) (entries : V → List E) (number : E
   in_reach : (s : S) (r : R s) → r.drawn ≤ r.served + 64
   in_reach s r =
       let le = total_le (IsTrueView number f b r.since r.served) (ticket_in (λ _. 1)) (passes_in one_each)
-          (λ (v : View F E) (h : IsTrueView number f b r.since r.served v). ticket_has_pass r.since r.served v.sights v.stage h.stage) s.views r.views in
+      (λ (v : View F E) (h : IsTrueView number f b r.since r.served v). ticket_has_pass r.since r.served v.sights v.stage h.stage) s.views r.views in
       let t = r.tickets (λ _. 1) in
       let n = r.numbers one_each refl in
       let d = below_ones r.drawn in
@@ -103,7 +103,7 @@ module _ {V F E : Type 0} (fixed : V → F) (entries : V → List E) (number : E
   nobody_acts : (s : S) (r : R s) (id : ℕ) (v : View F E) → get_elem? s.views id ≡ some v → v.stage ≡ Waiting r.served → total turn_in s.views ≡ 0
   nobody_acts s r id v at waits =
       let apart = total_apart (IsTrueView number f b r.since r.served) turn_in (ticket_in (same r.served))
-          (λ (x : View F E) (h : IsTrueView number f b r.since r.served x). turn_has_ticket r.since r.served x.sights x.stage h.stage) s.views id v r.views at in
+      (λ (x : View F E) (h : IsTrueView number f b r.since r.served x). turn_has_ticket r.since r.served x.sights x.stage h.stage) s.views id v r.views at in
       let one : ticket_in (same r.served) v ≡ 1 = ap (weigh (same r.served)) waits ∙ same_here r.served in
       let none : turn_in v ≡ 0 = ap turn_of waits in
       let most = below_same_most r.served r.drawn in
@@ -174,10 +174,10 @@ module _ {V F E : Type 0} (fixed : V → F) (entries : V → List E) (number : E
       let n : ℕ = get_or s.words 1 0 in
       let ticket : ticket_of v.stage ≡ t = ap ticket_of waits in
       dite (ℕ_discrete n (ticket_of v.stage % 2 ^ 64))
-          (λ hit. let got = finds id slots t v s r at waits (hit ∙ ap (λ k. k % 2 ^ 64) ticket) in
-            (got.0, takes 0 (Some got.1), got.2, got.3, at_true n (ticket_of v.stage % 2 ^ 64) _ _ hit got.4))
-          (λ miss. let here : List ℕ × List (View F E) → S = λ z. record { words = z.0; homes = s.homes; views = z.1 } in
-            (v, keeps, tt, subst (λ (z : List ℕ × List (View F E)). R (here z)) (λ i. (sym (set-get_or s.words 1 0) i, sym (set_again s.views id v at) i)) r, at_false n (ticket_of v.stage % 2 ^ 64) _ _ miss refl))
+      (λ hit. let got = finds id slots t v s r at waits (hit ∙ ap (λ k. k % 2 ^ 64) ticket) in
+      (got.0, takes 0 (Some got.1), got.2, got.3, at_true n (ticket_of v.stage % 2 ^ 64) _ _ hit got.4))
+      (λ miss. let here : List ℕ × List (View F E) → S = λ z. record { words = z.0; homes = s.homes; views = z.1 } in
+      (v, keeps, tt, subst (λ (z : List ℕ × List (View F E)). R (here z)) (λ i. (sym (set-get_or s.words 1 0) i, sym (set_again s.views id v at) i)) r, at_false n (ticket_of v.stage % 2 ^ 64) _ _ miss refl))
 
   pub looks_at : (id slots t : ℕ) (me : Seat_) → me.0.stage ≡ Waiting t → me.1 ≡ [] → Allows R slots id me 1 (λ n. n) (looked fixed entries number (step slots 1 0 0 maybe.none) me)
   looks_at id slots t me waits empty =
@@ -235,8 +235,10 @@ module _ {V F E : Type 0} (fixed : V → F) (entries : V → List E) (number : E
           words = ap (λ ws. set ws 1 ((get_or ws 1 0 + 1) % 2 ^ 64)) r.words ∙ ap (λ n. r.drawn % 2 ^ 64 ∷ n ∷ []) (one_further r.served);
           tickets = λ g. let a = total_set (ticket_in g) s.views id v w at in let e : g k ≡ g r.served = ap g served_now in let c = r.tickets g in omega (arith, a, e, c);
           numbers = λ g z. let a = total_set (passes_in g) s.views id v w at in let c = r.numbers g z in omega (arith, a, c);
-          placed = inl (let a = total_set turn_in s.views id v w at in let o = out.0 in omega (arith, a, o),
-              record { value = y; there = ap (λ hs. set hs 0 (some (Some y))) out.1; fixed_is = fixed_y ∙ good.fixed; entries_are = goes });
+          placed = inl (
+            let a = total_set turn_in s.views id v w at in let o = out.0 in omega (arith, a, o),
+            record { value = y; there = ap (λ hs. set hs 0 (some (Some y))) out.1; fixed_is = fixed_y ∙ good.fixed; entries_are = goes },
+          );
           authors = each_append (IsBy number callers) r.since added r.authors (each_map (λ e. number e ≡ t.number) (IsBy number callers) (λ e h. (let c = counts in omega arith, let c = fits.0 in omega arith)) added by);
           views = each_but Good (IsTrueView number f b (r.since ++ added) (suc r.served)) s.views id v w r.views at
               (record {
@@ -244,12 +246,12 @@ module _ {V F E : Type 0} (fixed : V → F) (entries : V → List E) (number : E
                 stage = tt;
               })
               (λ x h apart.
-                let none : passes_in (same t.number) x ≡ 0 = (let a = apart (passes_in (same t.number)) in let o = same_here t.number in let m = fits.1 in omega (arith, a, o, m)) in
-                let no_turn : turn_in x ≡ 0 = (let a = apart turn_in in let o = out.0 in omega (arith, a, o)) in record {
-                  sights = each_map (λ u. IsTrueSight number f b r.since u × (same t.number u.number ≡ 0)) (IsTrueSight number f b (r.since ++ added)) (λ u z. sight_on r.since added t.number u by z.1 z.0) x.sights
-                      (each_both (IsTrueSight number f b r.since) (λ u. same t.number u.number ≡ 0) x.sights h.sights (each_zero (λ u. same t.number u.number) x.sights none));
-                  stage = stands_on r.since r.served (r.since ++ added) (suc r.served) x.sights x.stage no_turn h.stage;
-                });
+              let none : passes_in (same t.number) x ≡ 0 = (let a = apart (passes_in (same t.number)) in let o = same_here t.number in let m = fits.1 in omega (arith, a, o, m)) in
+              let no_turn : turn_in x ≡ 0 = (let a = apart turn_in in let o = out.0 in omega (arith, a, o)) in record {
+                sights = each_map (λ u. IsTrueSight number f b r.since u × (same t.number u.number ≡ 0)) (IsTrueSight number f b (r.since ++ added)) (λ u z. sight_on r.since added t.number u by z.1 z.0) x.sights
+                    (each_both (IsTrueSight number f b r.since) (λ u. same t.number u.number ≡ 0) x.sights h.sights (each_zero (λ u. same t.number u.number) x.sights none));
+                stage = stands_on r.since r.served (r.since ++ added) (suc r.served) x.sights x.stage no_turn h.stage;
+              });
         },
         λ i. (same_view i, []),
       )
@@ -258,7 +260,7 @@ module _ {V F E : Type 0} (fixed : V → F) (entries : V → List E) (number : E
   pub rests : (s : S) (r : R s) (id : ℕ) (v : View F E) → get_elem? s.views id ≡ some v → v.stage ≡ Idle → callers ≤ passes_in one_each v → IsHome fixed entries f (b ++ r.since) s.homes
   rests s r id v at idle every =
       let apart = total_apart (IsTrueView number f b r.since r.served) turn_in (passes_in one_each)
-          (λ (x : View F E) (h : IsTrueView number f b r.since r.served x). turn_has_pass r.since r.served x.sights x.stage h.stage) s.views id v r.views at in
+      (λ (x : View F E) (h : IsTrueView number f b r.since r.served x). turn_has_pass r.since r.served x.sights x.stage h.stage) s.views id v r.views at in
       let none : turn_in v ≡ 0 = ap turn_of idle in
       let all = r.numbers one_each refl in
       let c = below_numbers callers in

@@ -4,6 +4,7 @@ ghost use Rattle.std.specs.Prelude.{◌≡◌, ℕ, ◌≤◌, List, ◌++◌, O
 /// A value that stands for fixed data and for a list of entries, which is its history.
 pub trait Kept: Send + Drop {
     type Fixed;
+
     type Entry;
 
     // What no turn changes.

@@ -24,6 +24,7 @@ pub struct Sums {
 
 impl Kept for Sums {
     type Fixed = ();
+
     type Entry = Pair;
 
     ghost fixed = { λ _. tt };
@@ -122,13 +123,13 @@ fn two_callers_make_eight_pairs(rt: HostRuntime) -> Result<(), Fail> {
     list.push(second)?;
     let value = lock.close(Passes { list });
     assert_eq!(rt; value.pairs.len(), 8);
-    let mut sum = 0;
-    let mut of_first = 0;
+    let mut sum: u64 = 0;
+    let mut of_first: u64 = 0;
     for pair in value.pairs.as_slice() {
-        sum += pair.number as u64;
+        sum = sum.wrapping_add(pair.number as u64);
         assert_eq!(rt; pair.sum, sum);
         if pair.number == 1 {
-            of_first += 1;
+            of_first = of_first.wrapping_add(1);
         }
     }
     assert_eq!(rt; of_first, 4);

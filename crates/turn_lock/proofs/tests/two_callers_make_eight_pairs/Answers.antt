@@ -1,0 +1,50 @@
+use Rattle.std.proofs.Common.{◌≡◌, ◌∙◌, ℕ, zero, suc, ◌+◌, ◌<◌, List, [], ◌∷◌, ◌++◌, Option, Some, option_to_list, length, slice_index_or, sym, refl, ap, subst, arith, length-append}
+use Rattle.atomic_table.specs.Seated.{TableId}
+use Rattle.turn_lock.specs.declared.kept.Kept.{Ghosts}
+use Rattle.turn_lock.specs.declared.pass.Pass.{Pass}
+use Rattle.turn_lock.specs.Passes.{lock_of, number_of, IsSamePass, AreNew, AreAll}
+use Rattle.turn_lock.proofs.Gathered.{popped}
+use Rattle.turn_lock.proofs.tests.two_callers_make_eight_pairs.Goals as goal
+
+nil_of : {A : Type 0} (l : List A) → length l ≡ 0 → l ≡ []
+nil_of [] e = refl
+nil_of (x ∷ xs) e = absurd (omega (arith, e))
+
+module _ {V F E : Type 0} {K : Ghosts V F E} where
+  two_locks : (lock : TableId) (a b : Pass V F E K) → lock_of a ≡ lock → lock_of b ≡ lock → (k : ℕ) (d : Pass V F E K) → k < 2 → lock_of (slice_index_or (a ∷ b ∷ []) k d) ≡ lock
+  two_locks lock a b x y zero d l = x
+  two_locks lock a b x y (suc zero) d l = y
+  two_locks lock a b x y (suc (suc k)) d l = absurd (omega arith)
+
+  two_numbers : (a b : Pass V F E K) → number_of a ≡ 1 → number_of b ≡ 2 → (k : ℕ) (d : Pass V F E K) → k < 2 → number_of (slice_index_or (a ∷ b ∷ []) k d) ≡ k + 1
+  two_numbers a b x y zero d l = x
+  two_numbers a b x y (suc zero) d l = y
+  two_numbers a b x y (suc (suc k)) d l = absurd (omega arith)
+
+  -- two new passes, taken out, used and put back
+  put_back : (lock : TableId) (n : ℕ) (f : F) (es : List E) (ps l1 l2 l3 ps' : List (Pass V F E K)) (a b a' b' : Pass V F E K) → n ≡ 2 → AreNew lock 2 f es ps
+      → ps ≡ l1 ++ b ∷ [] → l1 ≡ l2 ++ a ∷ [] → l3 ≡ l2 ++ a' ∷ [] → ps' ≡ l3 ++ b' ∷ []
+      → lock_of a' ≡ lock_of a → number_of a' ≡ number_of a → lock_of b' ≡ lock_of b → number_of b' ≡ number_of b → AreAll lock n ps'
+  put_back lock n f es ps l1 l2 l3 ps' a b a' b' n_is new e1 e2 e3 e4 la na lb nb =
+      let c : length ps ≡ 2 = new.count in
+      let c1 : length ps ≡ length (l1 ++ b ∷ []) = ap length e1 in
+      let c2 : length l1 ≡ length (l2 ++ a ∷ []) = ap length e2 in
+      let none : l2 ≡ [] = nil_of l2 (omega (arith, c, c1, c2, length-append l1 (b ∷ []), length-append l2 (a ∷ []))) in
+      let before : ps ≡ a ∷ b ∷ [] = e1 ∙ ap (λ l. l ++ b ∷ []) (e2 ∙ ap (λ l. l ++ a ∷ []) none) in
+      let after : ps' ≡ a' ∷ b' ∷ [] = e4 ∙ ap (λ l. l ++ b' ∷ []) (e3 ∙ ap (λ l. l ++ a' ∷ []) none) in
+      let made : AreNew lock 2 f es (a ∷ b ∷ []) = subst (AreNew lock 2 f es) before new in
+      let one = made.each 0 a (omega arith) in
+      let two = made.each 1 b (omega arith) in
+      let done : AreAll lock 2 (a' ∷ b' ∷ []) = record {
+        count = refl;
+        of_lock = two_locks lock a' b' (la ∙ one.0) (lb ∙ two.0);
+        numbers = two_numbers a' b' (na ∙ one.1) (nb ∙ two.1);
+      } in
+      subst (λ m. AreAll lock m ps') (sym n_is) (subst (AreAll lock 2) (sym after) done)
+
+pub close-value-requires-after_bounds : goal.close-value-requires-after_bounds
+close-value-requires-after_bounds g c κs =
+    put_back _ _ _ _ _ _ _ _ _ c.unwrap-first.result c.unwrap-second.result _ _ c.in_ok-lock.ensures.callers c.in_ok-lock.ensures.passes
+    (popped _ _ _ _ c.pop.ensures.items c.unwrap-second.ensures) (popped _ _ _ _ c.pop-2.ensures.items c.unwrap-first.ensures) c.in_ok-push.ensures.items c.in_ok-push-2.ensures.items
+    (c.round-first-2.ensures.0.0 ∙ (c.note-note.ensures.same.0.0 ∙ c.round-first.ensures.0.0)) (c.round-first-2.ensures.0.1 ∙ (c.note-note.ensures.same.0.1 ∙ c.round-first.ensures.0.1))
+    (c.round-first-2.ensures.1.0 ∙ (c.meet.ensures.same.0 ∙ c.round-first.ensures.1.0)) (c.round-first-2.ensures.1.1 ∙ (c.meet.ensures.same.1 ∙ c.round-first.ensures.1.1))
