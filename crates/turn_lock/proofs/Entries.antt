@@ -21,7 +21,3 @@ module _ {E : Type 0} (number : E → ℕ) where
   pub by_none : (p q : ℕ) (xs : List E) → Each (λ e. number e ≡ p) xs → p ≢ q → entries_by number q xs ≡ []
   by_none p q [] all ne = refl
   by_none p q (x ∷ xs) all ne = let e : (number x == q) ≡ false = test_else (number x) q (λ h. ne (sym all.0 ∙ h)) in rw e (by_none p q xs all.1 ne)
-
-  pub by_all : (p : ℕ) (xs : List E) → Each (λ e. number e ≡ p) xs → entries_by number p xs ≡ xs
-  by_all p [] all = refl
-  by_all p (x ∷ xs) all = let e : (number x == p) ≡ true = (let h = all.0 in grind (arith, nat_tests)) in rw e (ap (λ l. x ∷ l) (by_all p xs all.1))

@@ -11,7 +11,7 @@ use Rattle.turn_lock.specs.declared.view.Stage.TheVariants.{Idle, Waiting, Actin
 use Rattle.turn_lock.specs.declared.view.View.{View}
 use Rattle.turn_lock.specs.Views.{BeginsWith, Each, entries_by, number_in, numbers_in, fixed_in, began_in, since_in, alone, grown, unnumbered}
 use Rattle.turn_lock.specs.Rule.{total, passes_in, IsTrueSight, Ruled}
-use Rattle.turn_lock.specs.Steps.{IsPassAt, Finds, Recalls, view_after, passed_on, joined, copied, noted, kept_back, handed_out}
+use Rattle.turn_lock.specs.Steps.{IsPassAt, Finds, IsLeft, IsBack, Recalls, view_after, passed_on, joined, copied, noted, kept_back, handed_out}
 use Rattle.turn_lock.proofs.Totals.{total_cut, each_cut}
 use Rattle.turn_lock.specs.Passes.{fixed_of, seen, TakesTurn}
 use Rattle.turn_lock.proofs.Keeps.{splits, recalls}
@@ -70,8 +70,16 @@ module _ {V F E : Type 0} where
   pub is_note : (m : Me (Option V) (View F E)) (v : View F E) (n : ℕ) → m ≡ (noted v, []) → numbers_in v ≡ n ∷ [] → (numbers_in m.0 ≡ 0 ∷ []) × (m.0.stage ≡ Idle) × (m.1 ≡ [])
   is_note m v n e one = let o = one_sight v.sights n one in (ap (λ x. numbers_in x.0) e ∙ ap (λ ts. map number_in (map unnumbered ts)) o.1, ap (λ x. x.0.stage) e, ap (λ x. x.1) e)
 
-  pub put_back : (v : View F E) (m' m'' : Me (Option V) (View F E)) (c d : List (ℕ × Option V)) → m' ≡ (v, c) → m'' ≡ (m'.0, d) → m'' ≡ (v, d)
-  put_back v m' m'' c d e e' = e' ∙ ap (λ x. (x.0, d)) e
+module _ {V F E : Type 0} (fixed : V → F) (entries : V → List E) (number : E → ℕ) where
+  pub full_again : (me me' : Me (Option V) (View F E)) (x : V) → me' ≡ (me.0, (0, Some x) ∷ []) → IsLeft fixed entries number me.0 x → IsBack fixed entries number me'
+  full_again me me' x is left = record { value = x; there = ap (λ m. m.1) is; left = subst (λ m. IsLeft fixed entries number m.0 x) (sym is) left }
+
+  pub goes_home : (id slots : ℕ) (f : F) (b : List E) (callers : ℕ) (me : Me (Option V) (View F E)) → IsBack fixed entries number me
+      → Allows (Ruled fixed entries number f b callers) slots id me 1 (λ n. (n + 1) % 2 ^ 64) (passed_on entries (step slots 1 1 0 maybe.none) me)
+  goes_home id slots f b callers me h =
+      let l = h.left in
+      let P : Me (Option V) (View F E) → Type 0 = λ m. Allows (Ruled fixed entries number f b callers) slots id m 1 (λ n. (n + 1) % 2 ^ 64) (passed_on entries (step slots 1 1 0 maybe.none) m) in
+      subst P (λ i. (sym l.is i, sym h.there i)) (passes_on fixed entries number f b callers id slots l.ticket l.sight h.value l.added l.numbered l.fixed_is l.entries_are l.own)
 
 abbrev held_or : {V : Type 0} → V → List (ℕ × Option V) → V
 held_or d ((k, Some y) ∷ c) = y
@@ -82,17 +90,16 @@ each_option P None h = tt
 each_option P (Some e) h = (h e refl, tt)
 
 module _ {V F E : Type 0} {K : Ghosts V F E} where
-  -- the facts of one turn of the pass p: m1 is its seat once it waits, m2 once it has the turn, and m3 once the value y is back in place of x
-  pub record Acts (p : Pass V F E K) (m1 m2 m3 : Me (Option V) (View F E)) (x y : V) (added : List E) : Type 0 where
+  -- the facts of one turn of the pass p: m1 is its seat once it waits, m2 once it has the turn; the act makes y of the value x
+  pub record Acts (p : Pass V F E K) (m1 m2 : Me (Option V) (View F E)) (x y : V) (added : List E) : Type 0 where
     pub drew : m1.0.sights ≡ p.seat.me.0.sights
     pub finds : Finds K.fixed K.entries K.number m1 m2
     pub took : m2.1 ≡ (0, Some x) ∷ []
-    pub put : m3 ≡ (m2.0, (0, Some y) ∷ [])
     pub fixed_y : K.fixed y ≡ K.fixed x
     pub entries_y : K.entries y ≡ K.entries x ++ added
     pub signed : Each (λ e. K.number e ≡ p.number) added
 
-  module _ (p : Pass V F E K) (m1 m2 m3 : Me (Option V) (View F E)) (x y : V) (added : List E) (a : Acts p m1 m2 m3 x y added) where
+  module _ (p : Pass V F E K) (m1 m2 : Me (Option V) (View F E)) (x y : V) (added : List E) (a : Acts p m1 m2 x y added) where
     found : x ≡ a.finds.value
     found = let e : (0, Some x) ∷ [] ≡ m2.1 = sym a.took in let e' : m2.1 ≡ (0, Some a.finds.value) ∷ [] = ap (λ m. m.1) a.finds.now in ap (held_or x) (e ∙ e')
 
@@ -109,21 +116,26 @@ module _ {V F E : Type 0} {K : Ghosts V F E} where
     pub signed_sight : Each (λ e. K.number e ≡ a.finds.sight.number) added
     signed_sight = subst (λ n. Each (λ e. K.number e ≡ n) added) (sym number_is) a.signed
 
-    acting : m3 ≡ (alone (grown a.finds.sight a.finds.more) (Acting a.finds.ticket), (0, Some y) ∷ [])
-    acting = a.put ∙ ap (λ (m : Me (Option V) (View F E)). (m.0, (0, Some y) ∷ [])) a.finds.now
+    acting : (m : Me (Option V) (View F E)) (c : List (ℕ × Option V)) → m ≡ (m2.0, c) → m.0 ≡ alone (grown a.finds.sight a.finds.more) (Acting a.finds.ticket)
+    acting m c is = ap (λ m. m.0) is ∙ ap (λ m. m.0) a.finds.now
 
-    pub may_pass_on : (id slots : ℕ) (f : F) (b : List E) (callers : ℕ)
-        → Allows (Ruled K.fixed K.entries K.number f b callers) slots id m3 1 (λ n. (n + 1) % 2 ^ 64) (passed_on K.entries (step slots 1 1 0 maybe.none) m3)
-    may_pass_on id slots f b callers =
-        let P : Me (Option V) (View F E) → Type 0 = λ m. Allows (Ruled K.fixed K.entries K.number f b callers) slots id m 1 (λ n. (n + 1) % 2 ^ 64) (passed_on K.entries (step slots 1 1 0 maybe.none) m) in
-        subst P (sym acting) (passes_on K.fixed K.entries K.number f b callers id slots a.finds.ticket (grown a.finds.sight a.finds.more) y added a.finds.numbered
-        (a.fixed_y ∙ (ap K.fixed found ∙ a.finds.fixed_is)) value_history signed_sight)
+    pub leaves : (m : Me (Option V) (View F E)) (c : List (ℕ × Option V)) → m ≡ (m2.0, c) → IsLeft K.fixed K.entries K.number m.0 y
+    leaves m c is = record {
+      sight = grown a.finds.sight a.finds.more;
+      ticket = a.finds.ticket;
+      added = added;
+      is = acting m c is;
+      numbered = a.finds.numbered;
+      fixed_is = a.fixed_y ∙ (ap K.fixed found ∙ a.finds.fixed_is);
+      entries_are = value_history;
+      own = signed_sight;
+    }
 
     -- the seat once the turn is passed on
-    pub passed : (m4 : Me (Option V) (View F E)) → m4 ≡ (view_after K.entries m3.0 m3.1, []) → m4 ≡ (alone after Idle, [])
-    passed m4 is =
+    pub passed : (m m3 : Me (Option V) (View F E)) (c : List (ℕ × Option V)) → m ≡ (m2.0, c) → m3 ≡ (view_after K.entries m.0 ((0, Some y) ∷ []), []) → m3 ≡ (alone after Idle, [])
+    passed m m3 c was is =
         let kept : drop (length a.finds.sight.began) (K.entries y) ≡ (a.finds.sight.since ++ a.finds.more) ++ added = ap (drop (length a.finds.sight.began)) value_history ∙ drop-append_seam a.finds.sight.began ((a.finds.sight.since ++ a.finds.more) ++ added) in
-        is ∙ (ap (λ (m : Me (Option V) (View F E)). (view_after K.entries m.0 m.1, [])) acting
+        is ∙ (ap (λ (v : View F E). (view_after K.entries v ((0, Some y) ∷ []), [])) (acting m c was)
         ∙ (λ i. (record { sights = record { number = a.finds.sight.number; fixed = a.finds.sight.fixed; began = a.finds.sight.began; since = kept i } ∷ []; stage = Idle }, [])))
 
     pub before_view : p.seat.me.0 ≡ alone a.finds.sight Idle

@@ -11,7 +11,7 @@ use Rattle.turn_lock.specs.declared.view.Sight.{Sight}
 use Rattle.turn_lock.specs.declared.view.Stage.{Stage}
 use Rattle.turn_lock.specs.declared.view.Stage.TheVariants.{Idle, Waiting, Acting}
 use Rattle.turn_lock.specs.declared.view.View.{View}
-use Rattle.turn_lock.specs.Views.{BeginsWith, entries_by, numbers_in, alone, grown, unnumbered}
+use Rattle.turn_lock.specs.Views.{BeginsWith, Each, entries_by, numbers_in, alone, grown, unnumbered}
 use Rattle.turn_lock.specs.Rule.{ticket_of}
 
 module _ {F E : Type 0} where
@@ -74,6 +74,23 @@ module _ {V F E : Type 0} (fixed : V → F) (entries : V → List E) (number : E
     pub others : entries_by number sight.number more ≡ []
     pub fixed_is : fixed value ≡ sight.fixed
     pub entries_are : entries value ≡ sight.began ++ (sight.since ++ more)
+
+  -- what the act leaves to a pass that has the turn: the value stands for what the pass had seen, and then entries of its own
+  pub record IsLeft (v : View F E) (value : V) : Type 0 where
+    pub sight : Sight F E
+    pub ticket : ℕ
+    pub added : List E
+    pub is : v ≡ alone sight (Acting ticket)
+    pub numbered : 1 ≤ sight.number
+    pub fixed_is : fixed value ≡ sight.fixed
+    pub entries_are : entries value ≡ sight.began ++ (sight.since ++ added)
+    pub own : Each (λ e. number e ≡ sight.number) added
+
+  -- that value is back in the slot
+  pub record IsBack (me : Me (Option V) (View F E)) : Type 0 where
+    pub value : V
+    pub there : me.1 ≡ (0, Some value) ∷ []
+    pub left : IsLeft me.0 value
 
   -- at another seat's ticket nothing changes
   abbrev pub looked : Step (Option V) → Me (Option V) (View F E) → ℕ → Me (Option V) (View F E) → Type 0

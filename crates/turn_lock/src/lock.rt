@@ -3,8 +3,8 @@ ghost use Rattle.std.specs.Prelude.{◌≡◌, ◌≤◌};
 
 use crate::kept::{Act, Kept};
 use crate::pass::{Note, Pass, Passes};
-use crate::rule::{Both, Draw, Duplicate, Key, Law, PassOn, Recall, SERVING, TICKET};
-use crate::turns::{put_in, take_out, wait_for};
+use crate::rule::{Both, Draw, Duplicate, Key, Law, Recall, SERVING, TICKET};
+use crate::turns::{end_turn, take_out, wait_for};
 use crate::view::View;
 use atomic_table::Table;
 use std::alloc::{AllocError, Global};
@@ -41,8 +41,7 @@ impl<V: Kept> TurnLock<V> {
         wait_for(board, rt, &mut pass.seat, ticket);
         let mut value = take_out(board, &mut pass.seat);
         let reply = act.act(&mut value);
-        put_in(board, &mut pass.seat, value);
-        board.fetch_add::<PassOn>(&mut pass.seat, SERVING, 1);
+        end_turn(board, &mut pass.seat, value);
         reply
     }
 

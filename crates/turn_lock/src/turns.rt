@@ -2,10 +2,10 @@
 ghost use Rattle.std.specs.Prelude.{◌≡◌, ◌%◌, ◌^◌, ℕ, [], ◌∷◌, Some, None};
 ghost use Rattle.turn_lock.specs.declared.view.Stage.TheVariants.{Waiting};
 ghost use Rattle.turn_lock.specs.Rule.{ticket_of};
-ghost use Rattle.turn_lock.specs.Steps.{Finds};
+ghost use Rattle.turn_lock.specs.Steps.{Finds, IsLeft, IsBack, view_after};
 
 use crate::kept::Kept;
-use crate::rule::{Board, Look, Place, SERVING};
+use crate::rule::{Board, Look, PassOn, Place, SERVING};
 use std::sync::Wait;
 use std::thread;
 
@@ -46,4 +46,27 @@ pub fn put_in<V: Kept>(board: &Board<V>, seat: &mut Place<V>, value: V)
     ensures { (seat.new.table_id ≡ seat.old.table_id) × (seat.new.id ≡ seat.old.id) × (seat.new.me ≡ (seat.old.me.0, (0, Some value) ∷ [])) }
 {
     board.exchange(seat, 0, Some(value));
+}
+
+// Serves the next ticket. The value is back in the slot by then.
+pub fn pass_on<V: Kept>(board: &Board<V>, seat: &mut Place<V>)
+    requires lock { (seat.old.table_id ≡ board.now.table_id) × (board.now.table_id.words ≡ 2) }
+    requires back { IsBack V.fixed V.entries V.number seat.old.me }
+    ensures same { (seat.new.table_id ≡ seat.old.table_id) × (seat.new.id ≡ seat.old.id) }
+    ensures passed { seat.new.me ≡ (view_after V.entries seat.old.me.0 seat.old.me.1, []) }
+{
+    board.fetch_add::<PassOn>(seat, SERVING, 1);
+}
+
+// Ends the turn, with the value as the act left it.
+#[tactic(auto, using(crate::proofs::Taking::full_again))]
+pub fn end_turn<V: Kept>(board: &Board<V>, seat: &mut Place<V>, value: V)
+    requires lock { (seat.old.table_id ≡ board.now.table_id) × (board.now.table_id.words ≡ 2) }
+    requires empty { seat.old.me.1 ≡ (0, None) ∷ [] }
+    requires left { IsLeft V.fixed V.entries V.number seat.old.me.0 value }
+    ensures same { (seat.new.table_id ≡ seat.old.table_id) × (seat.new.id ≡ seat.old.id) }
+    ensures passed { seat.new.me ≡ (view_after V.entries seat.old.me.0 ((0, Some value) ∷ []), []) }
+{
+    put_in(board, seat, value);
+    pass_on(board, seat);
 }
