@@ -1,9 +1,9 @@
 -- The entries of one caller.
-use Rattle.std.proofs.Common.{◌≡◌, ◌≢◌, ℕ, ◌+◌, ◌%◌, ◌^◌, suc, ◌==◌, cond, true, false, List, [], ◌∷◌, ◌++◌, filter, sym, refl, ap, ◌∙◌, subst, arith, append-nil, append_assoc}
+use Rattle.std.proofs.Common.{◌≡◌, ◌≢◌, ℕ, ◌+◌, ◌%◌, ◌^◌, suc, ◌==◌, false, List, [], ◌∷◌, ◌++◌, sym, refl, ◌∙◌, arith, append-nil}
 use Rattle.std.proofs.lemmas.List.{append_cancel_left}
 use Rattle.std.proofs.lemmas.List.Elements.{filter-append}
 use Rattle.std.proofs.lemmas.Bool.Decides.{nat_tests}
-use Rattle.turn_lock.specs.Views.{BeginsWith, Each, entries_by}
+use Rattle.turn_lock.specs.Views.{Each, entries_by}
 
 pub one_further : (n : ℕ) → (n % 2 ^ 64 + 1) % 2 ^ 64 ≡ suc n % 2 ^ 64
 one_further n = omega arith

@@ -1,11 +1,11 @@
 -- How the passes are made one by one, and joined one by one.
-use Rattle.std.proofs.Common.{◌≡◌, ◌≢◌, ◌⊎◌, ℕ, zero, suc, ◌+◌, ◌-◌, ◌<◌, ◌≤◌, Option, Some, None, option_to_list, List, [], ◌∷◌, ◌++◌, map, take, drop, length, slice_get, slice_index_or, All, sym, refl, ap, ◌∙◌, subst, arith, inl, inr, ⊎_elim, append_assoc, append-nil, length-append}
+use Rattle.std.proofs.Common.{◌≡◌, ◌⊎◌, ℕ, zero, suc, ◌+◌, ◌-◌, ◌<◌, ◌≤◌, Option, Some, None, option_to_list, List, [], ◌∷◌, ◌++◌, map, take, drop, length, slice_get, slice_index_or, All, sym, refl, ap, ◌∙◌, subst, arith, inl, inr, ⊎_elim, append_assoc, append-nil, length-append}
 use Rattle.std.specs.List.{range_with_len}
 use mathlib.Core.Option.{some, some-injective}
 use mathlib.Core.Logic.{dite}
 use native.Mathlib.Decide.{ℕ_discrete}
 use lib.ListN.{get_elem?}
-use Rattle.atomic_table.specs.Table.{State, Me, Final, Seen, opening}
+use Rattle.atomic_table.specs.Table.{Me, Final, Seen, opening}
 use Rattle.atomic_table.specs.Seated.{TableId}
 use Rattle.atomic_table.proofs.Lists.{at_longer, at_last}
 use Rattle.turn_lock.specs.declared.kept.Kept.{Ghosts}
@@ -13,11 +13,11 @@ use Rattle.turn_lock.specs.declared.pass.Pass.{Pass}
 use Rattle.turn_lock.specs.declared.view.Sight.{Sight}
 use Rattle.turn_lock.specs.declared.view.Stage.TheVariants.{Idle}
 use Rattle.turn_lock.specs.declared.view.View.{View}
-use Rattle.turn_lock.specs.Views.{BeginsWith, Each, entries_by, fresh, number_in, numbers_in, fixed_in, began_in, since_in}
-use Rattle.turn_lock.specs.Rule.{total, one_each, passes_in, opening_view, IsBy, IsTrueSight, IsTrueView, Ruled}
+use Rattle.turn_lock.specs.Views.{Each, entries_by, fresh, fixed_in, began_in, since_in}
+use Rattle.turn_lock.specs.Rule.{total, one_each, opening_view, IsBy, IsTrueSight, IsTrueView, Ruled}
 use Rattle.turn_lock.specs.Steps.{joined, kept_back, handed_out}
 use Rattle.turn_lock.specs.Gathering.{Knows, GathersFrom, Gathers}
-use Rattle.turn_lock.specs.Passes.{fixed_of, began, since, mine, IsNewPass, AreNew, IsWhole}
+use Rattle.turn_lock.specs.Passes.{IsNewPass, AreNew, IsWhole}
 use Rattle.turn_lock.proofs.Totals.{total_append, each_at}
 use Rattle.turn_lock.proofs.Keeps.{opens}
 use Rattle.turn_lock.proofs.Taking.{one_sight}

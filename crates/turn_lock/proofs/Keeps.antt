@@ -1,21 +1,19 @@
 -- The steps that make no turn keep the rule: the opening, a draw, a recall, a split, a join.
-use Rattle.std.proofs.Common.{◌≡◌, ◌⊎◌, ℕ, zero, suc, ◌+◌, ◌%◌, ◌^◌, ◌<◌, ◌≤◌, Option, Some, None, List, [], ◌∷◌, ◌++◌, map, take, drop, length, set, get_or, sym, refl, ap, ◌∙◌, subst, arith, append-nil, add-one, add-zero, inl}
+use Rattle.std.proofs.Common.{◌≡◌, ◌⊎◌, ℕ, zero, suc, ◌+◌, ◌%◌, ◌^◌, ◌≤◌, Option, Some, List, [], ◌∷◌, ◌++◌, map, set, get_or, sym, refl, ap, ◌∙◌, subst, arith, append-nil, add-one, add-zero, inl}
 use Rattle.std.specs.List.{range_with_len}
 use mathlib.Core.Option.{some}
 use mathlib.Core.Option as maybe
-use lib.ListN.{get_elem?}
 use lib.Seq.{set-get_or}
 use Rattle.atomic_table.specs.Table.{State, Me, step, keeps, Allows, Splits, Joins, opening}
 use Rattle.atomic_table.proofs.Lists.{set_else}
 use Rattle.turn_lock.specs.declared.view.Sight.{Sight}
-use Rattle.turn_lock.specs.declared.view.Stage.{Stage}
-use Rattle.turn_lock.specs.declared.view.Stage.TheVariants.{Idle, Waiting, Acting}
+use Rattle.turn_lock.specs.declared.view.Stage.TheVariants.{Idle, Waiting}
 use Rattle.turn_lock.specs.declared.view.View.{View}
-use Rattle.turn_lock.specs.Views.{BeginsWith, Each, entries_by, alone, grown, fresh}
+use Rattle.turn_lock.specs.Views.{Each, entries_by, alone, grown, fresh}
 use Rattle.turn_lock.specs.Rule.{weigh, turn_of, total, total_below, ticket_in, passes_in, turn_in, opening_view, IsTrueSight, IsTrueView, IsHome, Placed, Ruled}
 use Rattle.turn_lock.specs.Steps.{staged, IsPassAt, joined, spent, drew, Recalls}
 use Rattle.turn_lock.proofs.Totals.{total_set, total_append, each_set, each_append, each_at}
-use Rattle.turn_lock.proofs.Entries.{one_further, by_append, by_rest}
+use Rattle.turn_lock.proofs.Entries.{one_further, by_rest}
 
 module _ {V F E : Type 0} (fixed : V → F) (entries : V → List E) (number : E → ℕ) (f : F) (b : List E) (callers : ℕ) where
   abbrev pub S : Type 0

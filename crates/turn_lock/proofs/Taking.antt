@@ -1,19 +1,19 @@
 -- What a turn, a note and a meeting do to a pass.
-use Rattle.std.proofs.Common.{◌≡◌, ℕ, zero, suc, ◌+◌, ◌%◌, ◌^◌, ◌<◌, ◌≤◌, Option, Some, None, option_to_list, List, [], ◌∷◌, ◌++◌, map, length, take, drop, sym, refl, ap, ap₂, ◌∙◌, subst, arith, append-nil, append_assoc}
+use Rattle.std.proofs.Common.{◌≡◌, ℕ, suc, ◌+◌, ◌%◌, ◌^◌, ◌≤◌, Option, Some, None, option_to_list, List, [], ◌∷◌, ◌++◌, map, length, take, drop, sym, refl, ap, ◌∙◌, subst, arith, append_assoc}
 use Rattle.std.proofs.Math.Seq.{drop-append_seam}
 use mathlib.Core.Option as maybe
-use Rattle.atomic_table.specs.Table.{State, Me, step, Allows, Splits}
+use Rattle.atomic_table.specs.Table.{Me, step, Allows, Splits}
 use Rattle.turn_lock.specs.declared.kept.Kept.{Ghosts}
 use Rattle.turn_lock.specs.declared.pass.Pass.{Pass}
 use Rattle.turn_lock.specs.declared.view.Sight.{Sight}
 use Rattle.turn_lock.specs.declared.view.Stage.{Stage}
-use Rattle.turn_lock.specs.declared.view.Stage.TheVariants.{Idle, Waiting, Acting}
+use Rattle.turn_lock.specs.declared.view.Stage.TheVariants.{Idle, Acting}
 use Rattle.turn_lock.specs.declared.view.View.{View}
 use Rattle.turn_lock.specs.Views.{BeginsWith, Each, entries_by, number_in, numbers_in, fixed_in, began_in, since_in, alone, grown, unnumbered}
-use Rattle.turn_lock.specs.Rule.{total, passes_in, IsTrueSight, Ruled}
+use Rattle.turn_lock.specs.Rule.{total, IsTrueSight, Ruled}
 use Rattle.turn_lock.specs.Steps.{IsPassAt, Finds, IsLeft, IsBack, Recalls, view_after, passed_on, joined, copied, noted, kept_back, handed_out}
 use Rattle.turn_lock.proofs.Totals.{total_cut, each_cut}
-use Rattle.turn_lock.specs.Passes.{fixed_of, seen, TakesTurn}
+use Rattle.turn_lock.specs.Passes.{seen, TakesTurn}
 use Rattle.turn_lock.proofs.Keeps.{splits, recalls}
 use Rattle.turn_lock.proofs.TurnKeeps.{passes_on}
 

@@ -1,5 +1,5 @@
 -- The steps of a turn keep the rule: the look that finds the turn, and the addition that passes it on. And what the rule says at the end.
-use Rattle.std.proofs.Common.{◌≡◌, ◌≢◌, ◌⊎◌, ℕ, zero, suc, ◌+◌, ◌%◌, ◌^◌, ◌<◌, ◌≤◌, ◌==◌, Bool, true, false, MatchBool, Option, Some, None, List, [], ◌∷◌, ◌++◌, map, drop, length, set, get_or, sym, refl, ap, ◌∙◌, subst, arith, append-nil, append_assoc, inl, inr, ⊎_elim}
+use Rattle.std.proofs.Common.{◌≡◌, ◌≢◌, ℕ, zero, suc, ◌+◌, ◌%◌, ◌^◌, ◌≤◌, ◌==◌, true, false, MatchBool, Option, Some, List, [], ◌∷◌, ◌++◌, drop, length, set, get_or, sym, refl, ap, ◌∙◌, subst, arith, append-nil, append_assoc, inl, inr}
 use Rattle.std.proofs.Math.Seq.{drop-append_seam}
 use Rattle.std.proofs.lemmas.Bool.Decides.{nat_tests}
 use mathlib.Core.Logic.{dite}
@@ -14,12 +14,11 @@ use Rattle.turn_lock.specs.declared.view.Sight.{Sight}
 use Rattle.turn_lock.specs.declared.view.Stage.{Stage}
 use Rattle.turn_lock.specs.declared.view.Stage.TheVariants.{Idle, Waiting, Acting}
 use Rattle.turn_lock.specs.declared.view.View.{View}
-use Rattle.turn_lock.specs.Views.{BeginsWith, Each, entries_by, alone, grown}
-use Rattle.turn_lock.specs.Rule.{one_each, weigh, ticket_of, turn_of, total, total_below, ticket_in, passes_in, turn_in, IsBy, Stands, IsTrueSight, IsTrueView, IsHome, Placed, Ruled}
+use Rattle.turn_lock.specs.Views.{Each, entries_by, alone, grown}
+use Rattle.turn_lock.specs.Rule.{one_each, weigh, ticket_of, turn_of, total, ticket_in, passes_in, turn_in, IsBy, Stands, IsTrueSight, IsTrueView, IsHome, Placed, Ruled}
 use Rattle.turn_lock.specs.Steps.{Finds, looked, view_after, passed_on}
 use Rattle.turn_lock.proofs.Totals.{total_set, total_has, total_le, total_apart, each_set, each_append, each_at, each_map, each_both, each_but, each_zero, same, below_ones, below_numbers, same_here, same_else, below_same_most, between}
 use Rattle.turn_lock.proofs.Entries.{one_further, by_append, by_rest, by_none}
-use Rattle.turn_lock.proofs.Keeps.{stays_placed}
 
 yes_same : (a b : ℕ) → a ≡ b → (a == b) ≡ true
 yes_same a b h = grind (arith, nat_tests)

@@ -1,5 +1,5 @@
 -- The rule that each atomic step keeps. The history is what the lock began with, and then the entries of the turns that were passed on.
-use Rattle.std.specs.Prelude.{◌≡◌, ◌⊎◌, ℕ, zero, suc, ◌+◌, ◌%◌, ◌^◌, ◌≤◌, Option, Some, None, List, [], ◌∷◌, ◌++◌, map}
+use Rattle.std.specs.Prelude.{◌≡◌, ◌⊎◌, ℕ, zero, suc, ◌+◌, ◌%◌, ◌^◌, ◌≤◌, Option, Some, List, [], ◌∷◌, ◌++◌, map}
 use Rattle.std.specs.List.{range_with_len}
 use mathlib.Core.Option as maybe
 use Rattle.atomic_table.specs.Table.{State}

@@ -5,13 +5,13 @@
 -- pass on: an addition to the word `serving`; the slot comes home, and what the value then stands for is what the seat has seen.
 -- number: a load, by which the first seat hands its next number to a new one. split: a load, by which a note is cut off a pass.
 -- join: a load, by which one seat takes in what another has seen. A look behind it tells the seat a history that begins with both.
-use Rattle.std.specs.Prelude.{◌≡◌, ◌==◌, ℕ, ◌+◌, ◌%◌, ◌^◌, ◌≤◌, Option, Some, None, MatchBool, List, [], ◌∷◌, ◌++◌, map, take, drop, length}
+use Rattle.std.specs.Prelude.{◌≡◌, ◌==◌, ℕ, ◌%◌, ◌^◌, ◌≤◌, Option, Some, MatchBool, List, [], ◌∷◌, ◌++◌, map, take, drop, length}
 use Rattle.atomic_table.specs.Table.{Me, Step}
 use Rattle.turn_lock.specs.declared.view.Sight.{Sight}
 use Rattle.turn_lock.specs.declared.view.Stage.{Stage}
 use Rattle.turn_lock.specs.declared.view.Stage.TheVariants.{Idle, Waiting, Acting}
 use Rattle.turn_lock.specs.declared.view.View.{View}
-use Rattle.turn_lock.specs.Views.{BeginsWith, Each, entries_by, numbers_in, alone, grown, unnumbered}
+use Rattle.turn_lock.specs.Views.{BeginsWith, Each, entries_by, alone, grown, unnumbered}
 use Rattle.turn_lock.specs.Rule.{ticket_of}
 
 module _ {F E : Type 0} where

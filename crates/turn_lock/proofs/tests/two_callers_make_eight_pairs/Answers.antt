@@ -1,8 +1,8 @@
-use Rattle.std.proofs.Common.{◌≡◌, ◌∙◌, ℕ, zero, suc, ◌+◌, ◌<◌, List, [], ◌∷◌, ◌++◌, Option, Some, option_to_list, length, slice_index_or, sym, refl, ap, subst, arith, length-append}
+use Rattle.std.proofs.Common.{◌≡◌, ◌∙◌, ℕ, zero, suc, ◌+◌, ◌<◌, List, [], ◌∷◌, ◌++◌, length, slice_index_or, sym, refl, ap, subst, arith, length-append}
 use Rattle.atomic_table.specs.Seated.{TableId}
 use Rattle.turn_lock.specs.declared.kept.Kept.{Ghosts}
 use Rattle.turn_lock.specs.declared.pass.Pass.{Pass}
-use Rattle.turn_lock.specs.Passes.{lock_of, number_of, IsSamePass, AreNew, AreAll}
+use Rattle.turn_lock.specs.Passes.{lock_of, number_of, AreNew, AreAll}
 use Rattle.turn_lock.proofs.Gathered.{popped}
 use Rattle.turn_lock.proofs.tests.two_callers_make_eight_pairs.Goals as goal
 

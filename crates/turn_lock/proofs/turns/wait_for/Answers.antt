@@ -1,5 +1,4 @@
-use Rattle.std.proofs.Common.{◌∙◌, sym, ap, arith, rules}
-use Rattle.turn_lock.specs.Rule.{ticket_of}
+use Rattle.std.proofs.Common.{◌∙◌, ap, arith}
 use Rattle.turn_lock.proofs.TurnKeeps.{looks_at}
 use Rattle.turn_lock.proofs.turns.wait_for.Goals as goal
 
