@@ -11,6 +11,7 @@ pub struct Count {
 
 impl Kept for Count {
     type Fixed = ();
+
     type Entry = u32;
 
     ghost fixed = { λ _. tt };

@@ -4,11 +4,10 @@ ghost use Rattle.turn_lock.specs.Passes.{id_of, lock_of};
 
 use crate::count::{Count, Step};
 use std::alloc::Global;
-use std::io;
 use std::sync::{Mutex, Wait};
-use std::thread;
 use std::thread::Threads;
 use std::time::{Clock, Instant};
+use std::{io, thread};
 use turn_lock::{Pass, Passes, TurnLock};
 
 fn take_turns<R: Wait>(rt: &R, lock: &TurnLock<Count>, pass: &mut Pass<Count>, turns: u64)
