@@ -1,8 +1,11 @@
-//! The seeds of a session's parties.
+//! The parties of a session: their seeds, and the honest work of one of them.
 //!
 //! A `SeedRoll` tells every party's seed: the SHA-256 (FIPS 180-4) of the master seed's 32 bytes
 //! followed by the party's number as one byte, and with the number 0 the public seed, from which the
-//! common polynomials are drawn. Nothing is said of how secret a seed is.
+//! common polynomials are drawn. A `SeedParty` has what all parties of the roll dealt to its point
+//! (Shamir 1979, over the ring), and makes its shares of the public key and of decryptions: its share of
+//! the secret times its Lagrange coefficient for the set, then the noise of that instance's stream.
+//! Nothing is said of how secret a seed is.
 #![tactic(auto)]
 
 mod party;
