@@ -12,3 +12,6 @@ mod share;
 
 pub use finish::dec_finish;
 pub use share::dec_share;
+
+#[cfg(test)]
+mod tests;
