@@ -9,8 +9,6 @@
 
 mod cipher;
 mod plain;
-#[cfg(test)]
-mod tests;
 
 pub use cipher::{add, copied, encrypt, phase};
 pub use mod_ring::{Ciphertext, PublicKey};

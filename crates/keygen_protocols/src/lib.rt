@@ -9,8 +9,6 @@
 
 mod commons;
 mod public_key;
-#[cfg(test)]
-mod tests;
 
 pub use commons::common;
 pub use public_key::{pk_key, pk_share};
