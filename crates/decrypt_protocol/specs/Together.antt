@@ -1,7 +1,6 @@
 -- What the honest shares of several parties open together.
 use Rattle.std.specs.Prelude.{◌≡◌, ℕ, ◌+◌, ◌*◌, ◌≤◌, List, length, All}
 use Rattle.ring_spec.specs.Ring.{IsPoly, size}
-use Rattle.ring_spec.specs.Pairs.{Cipher}
 use Rattle.ring_laws.specs.Aggregate.{ring_total}
 use Rattle.bfv_spec.specs.Scheme.{limit, Carries}
 use Rattle.bfv_laws.specs.Parties.{Party, parts, noises, decryption_shares}

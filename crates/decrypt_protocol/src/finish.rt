@@ -3,11 +3,10 @@ ghost use Rattle.ring_spec.specs.Ring.{IsPoly, ring_sum};
 ghost use Rattle.bfv_spec.specs.Scheme.{decryption};
 ghost use Rattle.decrypt_protocol.specs.Together.{OpensForAll};
 
-use std::alloc::{AllocError, Global};
-
 use bfv_core::{copied, round_phase};
 use mod_ring::{Poly, Polys, Ring, add_into};
 use param_set::Plain;
+use std::alloc::{AllocError, Global};
 
 /// The plaintext of a ciphertext with the first part c0 from the sums of its shares: the decryption of
 /// c0 and their one row.

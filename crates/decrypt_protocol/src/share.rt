@@ -3,10 +3,9 @@ ghost use Rattle.ring_spec.specs.Ring.{IsPoly};
 ghost use Rattle.draw_spec.specs.Streams.{instance_stream};
 ghost use Rattle.dec_spec.specs.Decrypting.{flood as flood_of, honest_dec};
 
-use std::alloc::{AllocError, Global};
-
 use mod_ring::{Poly, Polys, Ring, add_into, mul};
 use ring_draws::wide;
+use std::alloc::{AllocError, Global};
 use word_tape::Tape;
 
 /// The stream of an instance.
@@ -21,12 +20,24 @@ fn flood(alloc: Global, ring: &Ring, seed: [u8; 32], id: u32) -> Result<Poly, Al
     ensures value { IfOk result (λ f. f ≡ flood_of ring.now.params.q ring.now.params.n ring.now.params.flood seed id) }
     ensures fits { IfOk result (λ f. IsPoly ring.now.params.q ring.now.params.n f) }
 {
-    wide(alloc, ring, ring.params().flood(), &mut Tape::new(seed, stream_of(id)))
+    wide(
+        alloc,
+        ring,
+        ring.params().flood(),
+        &mut Tape::new(seed, stream_of(id)),
+    )
 }
 
 /// The row of an honest share: c1 * part + f.
 #[tactic(auto, unfolding(dec_spec::specs::Decrypting::honest_dec))]
-fn dec_row(alloc: Global, ring: &Ring, seed: [u8; 32], id: u32, c1: &Poly, part: &Poly) -> Result<Poly, AllocError>
+fn dec_row(
+    alloc: Global,
+    ring: &Ring,
+    seed: [u8; 32],
+    id: u32,
+    c1: &Poly,
+    part: &Poly,
+) -> Result<Poly, AllocError>
     requires c1 { IsPoly ring.now.params.q ring.now.params.n c1.now }
     requires part { IsPoly ring.now.params.q ring.now.params.n part.now }
     ensures value { IfOk result (λ row. row ≡ honest_dec ring.now.params.q ring.now.params.n ring.now.params.flood seed id c1.now part.now) }
@@ -43,7 +54,14 @@ fn dec_row(alloc: Global, ring: &Ring, seed: [u8; 32], id: u32, c1: &Poly, part:
 ///
 /// The part is the party's share of the secret times its Lagrange coefficient, n coefficients below q.
 /// f is added once that product stands, and no coefficient scales it.
-pub fn dec_share(alloc: Global, ring: &Ring, seed: [u8; 32], id: u32, c1: &Poly, part: &Poly) -> Result<Polys, AllocError>
+pub fn dec_share(
+    alloc: Global,
+    ring: &Ring,
+    seed: [u8; 32],
+    id: u32,
+    c1: &Poly,
+    part: &Poly,
+) -> Result<Polys, AllocError>
     requires c1 { IsPoly ring.now.params.q ring.now.params.n c1.now }
     requires part { IsPoly ring.now.params.q ring.now.params.n part.now }
     ensures value { IfOk result (λ rows. rows ≡ honest_dec ring.now.params.q ring.now.params.n ring.now.params.flood seed id c1.now part.now ∷ []) }

@@ -30,7 +30,13 @@ pub(crate) fn first_common(
 
 /// The common polynomials of an instance's first rows, one behind the other in the public seed's
 /// stream of the instance.
-pub fn common(alloc: Global, ring: &Ring, public: [u8; 32], id: u32, rows: u32) -> Result<Polys, AllocError>
+pub fn common(
+    alloc: Global,
+    ring: &Ring,
+    public: [u8; 32],
+    id: u32,
+    rows: u32,
+) -> Result<Polys, AllocError>
     ensures value { IfOk result (λ polys. polys ≡ common_polys ring.now.params.q ring.now.params.n public id rows) }
     ensures fits { IfOk result (λ polys. All (IsPoly ring.now.params.q ring.now.params.n) polys) }
 {

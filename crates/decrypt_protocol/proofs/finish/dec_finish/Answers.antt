@@ -1,7 +1,5 @@
 -- The phase is the sum of the first part and the row.
-use Rattle.std.proofs.Common.{◌∙◌, [], slice_index_or, arith, rules}
-use Rattle.ring_spec.specs.Ring.{ring_sum}
-use Rattle.bfv_spec.specs.Scheme.{decryption}
+use Rattle.std.proofs.Common.{[], slice_index_or, arith, rules}
 use Rattle.decrypt_protocol.proofs.Together.{opened-fits, opens-for-all}
 use Rattle.decrypt_protocol.proofs.finish.dec_finish.Goals as goal
 

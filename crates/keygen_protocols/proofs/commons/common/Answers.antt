@@ -23,7 +23,7 @@ loop-row-preserved c =
     let here = row-here p.q p.n c.args.public c.args.id k c.loop-row.tape c.loop-row.invariant.tape in
     record {
       rows = c.in_ok-push.ensures.ok ∙ ap (λ ps. ps ++ row ∷ []) c.loop-row.invariant.rows
-      ∙ ap (λ r. so_far p.q p.n c.args.public c.args.id k ++ r ∷ []) (c.in_ok-uniform.ensures.value ∙ here) ∙ so_far-next p.q p.n c.args.public c.args.id k;
+          ∙ ap (λ r. so_far p.q p.n c.args.public c.args.id k ++ r ∷ []) (c.in_ok-uniform.ensures.value ∙ here) ∙ so_far-next p.q p.n c.args.public c.args.id k;
       fit = subst (All (IsPoly p.q p.n)) (sym c.in_ok-push.ensures.ok) (All-push (IsPoly p.q p.n) c.loop-row.polys row c.loop-row.invariant.fit c.in_ok-uniform.ensures.fits);
       tape = Stands-next (start c.args.public c.args.id) c.loop-row.tape c.uniform.new.tape (4 * p.n * k) (4 * p.n * (k + 1)) (4 * p.n) c.loop-row.invariant.tape c.in_ok-uniform.ensures.place (omega arith);
     }
