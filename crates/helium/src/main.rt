@@ -5,13 +5,11 @@
 //! are not UTF-8 are words that the program doesn't take.
 #![tactic(auto)]
 
-use std::env;
-use std::io;
-use std::process::ExitCode;
-use std::rt::Env;
-
 use edge_io::{StdSink, StdSource};
 use helper_main::{Status, run_words};
+use std::process::ExitCode;
+use std::rt::Env;
+use std::{env, io};
 
 /// The words of the command line behind the program's own name.
 fn words<R: Env + AllocGlobal>(rt: &R) -> io::Result<Vec<String>> {
