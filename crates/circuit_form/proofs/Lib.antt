@@ -1,0 +1,4 @@
+pub mod Residues
+pub mod Terms
+pub mod Standing
+pub mod Steps
