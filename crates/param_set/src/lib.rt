@@ -7,9 +7,11 @@
 //! `Plains` a list of those. Nothing is said of security.
 #![tactic(auto)]
 
+mod ids;
 mod params;
 mod plain;
 
+pub use ids::{Ids, Slots};
 pub use params::Params;
 pub use plain::{Plain, Plains};
 

@@ -45,7 +45,7 @@ pub ruleset one_by_one = (count_more, members_none, members_all)
 -- ---- the least members, chosen among the parties 1 to n
 
 -- bits that lie below place n are no parties above n
-has_above : (bits n : ℕ) → bits < 2 ^ n → has bits (n + 1) ≡ false
+pub has_above : (bits n : ℕ) → bits < 2 ^ n → has bits (n + 1) ≡ false
 unfolding has
 has_above bits n h =
     and_right (nat_le 1 (n + 1) && nat_le (n + 1) 32) (nat_eq (bits / 2 ^ (n + 1 - 1) % 2) 1)
@@ -53,7 +53,7 @@ has_above bits n h =
     let same : n + 1 - 1 ≡ n = omega arith in let one : bits / 2 ^ n % 2 ≡ 1 = (rw same at e) in absurd (omega arith)))
 
 -- with bit n too, they are party n + 1
-has_new : (bits n : ℕ) → bits < 2 ^ n → n < 32 → has (2 ^ n + bits) (n + 1) ≡ true
+pub has_new : (bits n : ℕ) → bits < 2 ^ n → n < 32 → has (2 ^ n + bits) (n + 1) ≡ true
 unfolding has
 has_new bits n h l =
     and_from (nat_le 1 (n + 1) && nat_le (n + 1) 32) (nat_eq ((2 ^ n + bits) / 2 ^ (n + 1 - 1) % 2) 1)
@@ -67,7 +67,7 @@ has_new bits n h l =
     rw (same, once) (e ∙ f)))
 
 -- and the same parties up to n
-has_old : (bits n p : ℕ) → p ≤ n → has (2 ^ n + bits) p ≡ has bits p
+pub has_old : (bits n p : ℕ) → p ≤ n → has (2 ^ n + bits) p ≡ has bits p
 unfolding has
 has_old bits n p h = elim (cases_eq p 0) [
   | inl e ↦ rw e refl
@@ -78,7 +78,7 @@ has_old bits n p h = elim (cases_eq p 0) [
 ]
 
 -- two sets with the same parties up to n have the same members there
-members_same : (a b n m : ℕ) → n ≤ m → ((p : ℕ) → p ≤ m → has a p ≡ has b p) → members_to n a ≡ members_to n b
+pub members_same : (a b n m : ℕ) → n ≤ m → ((p : ℕ) → p ≤ m → has a p ≡ has b p) → members_to n a ≡ members_to n b
 members_same a b zero m l h = members_none a ∙ sym (members_none b)
 members_same a b (suc n) m l h =
     let e : suc n ≡ n + 1 = omega arith in
@@ -97,7 +97,7 @@ take_nil (suc k) = refl
 pub Chosen-start : (set k : ℕ) → Chosen set k 0 0 0
 Chosen-start set k = record { small = omega arith; chosen = members_none 0 ∙ sym (ap (take k) (members_none set) ∙ take_nil k); many = ap length (sym (members_none 0)) }
 
-double : (n : ℕ) → 2 ^ (n + 1) ≡ 2 * 2 ^ n
+pub double : (n : ℕ) → 2 ^ (n + 1) ≡ 2 * 2 ^ n
 double n = ap (λ (z : ℕ). 2 ^ z) (let e : n + 1 ≡ suc n = omega arith in e) ∙ pow-suc 2 n ∙ omega arith
 
 -- party n + 1 is taken

@@ -1,5 +1,6 @@
 ghost use Rattle.std.specs.Prelude.{◌≡◌, ℕ, ◌≤◌, ◌↔◌, take, IfSome, IsSome};
 ghost use Rattle.share_spec.specs.Sets.{has as is_member, members, count as number_of};
+ghost use Rattle.proto_names.specs.Groups.{with_party, without_party, least_of, is_outside, first_outside, number_outside};
 
 /// A set of the parties 1 to 32: bit p - 1 stands for party p.
 #[derive(Clone, Copy, Debug, PartialEq, Eq)]
@@ -35,6 +36,7 @@ impl PartySet {
     pub fn least(&self, k: u32) -> Option<PartySet>
         ensures members { IfSome result (λ some. members some.bits ≡ take k (members self.now.bits)) }
         ensures enough { IsSome result ↔ (k ≤ number_of self.now.bits) }
+        ensures bits { IfSome result (λ some. some.bits ≡ least_of k self.now.bits) }
     {
         let mut bits = 0u32;
         let mut taken = 0u32;
@@ -49,6 +51,46 @@ impl PartySet {
         } else {
             None
         }
+    }
+
+    /// The set with party p too.
+    #[tactic(auto, unfolding(crate::specs::Groups::with_party))]
+    pub fn with(&self, p: u32) -> PartySet
+        requires first { 1 ≤ p }
+        requires last { p ≤ 32 }
+        ensures { result.bits ≡ with_party self.now.bits p }
+    {
+        PartySet {
+            bits: self.bits | (1 << (p - 1)),
+        }
+    }
+
+    /// The set without party p.
+    #[tactic(auto, unfolding(crate::specs::Groups::without_party))]
+    pub fn without(&self, p: u32) -> PartySet
+        requires first { 1 ≤ p }
+        requires last { p ≤ 32 }
+        ensures { result.bits ≡ without_party self.now.bits p }
+    {
+        PartySet {
+            bits: self.bits & !(1 << (p - 1)),
+        }
+    }
+
+    /// The least party of the set that isn't in another.
+    #[tactic(auto, unfolding(crate::specs::Groups::first_outside, crate::specs::Groups::is_outside))]
+    pub fn first_outside(&self, other: &PartySet) -> Option<u32>
+        ensures { result ≡ first_outside self.now.bits other.now.bits }
+    {
+        (1..33u32).find(|p| self.has(*p) && !other.has(*p))
+    }
+
+    /// How many parties of the set aren't in another.
+    #[tactic(auto, unfolding(crate::specs::Groups::number_outside, crate::specs::Groups::is_outside))]
+    pub fn outside(&self, other: &PartySet) -> u32
+        ensures { result ≡ number_outside self.now.bits other.now.bits }
+    {
+        (1..33u32).filter(|p| self.has(*p) && !other.has(*p)).count() as u32
     }
 }
 

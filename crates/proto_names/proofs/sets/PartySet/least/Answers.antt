@@ -1,6 +1,7 @@
 -- A turn takes the next party or leaves it; after 32 turns k are taken where there are as many.
 use Rattle.std.proofs.Common.{◌≡◌, ℕ, ◌+◌, subst, sym, ap, ◌∙◌, refl, arith, length}
 use Rattle.proto_names.proofs.Members.{Chosen, Chosen-takes, Chosen-leaves, Chosen-enough, with_bit, members_all}
+use Rattle.proto_names.proofs.Bits.{Chosen-least}
 use Rattle.proto_names.proofs.sets.PartySet.least.Goals as goal
 use Rattle.proto_names.proofs.sets.PartySet.least.Goals.{then-taken-k+then-has, else-taken-k, else-taken-k-via-then-taken-k+else-has, else-taken-k-via-else-taken-k}
 
@@ -47,3 +48,10 @@ returns-else-taken-k-2-clause-enough c =
     let last : c.loop-place.place ≡ 32 = omega arith in
     let there = rw last at some in
     ((λ e. cc), (λ h. absurd (omega (arith, there))))
+
+pub returns-then-taken-k-2-clause-bits : goal.returns-then-taken-k-2-clause-bits
+returns-then-taken-k-2-clause-bits c =
+    let last : c.loop-place.place ≡ 32 = omega arith in
+    let chosen = c.loop-place.invariant.so_far in
+    let all : Chosen c.args.self.now.bits c.args.k c.loop-place.bits c.loop-place.taken 32 = rw last at chosen in
+    Chosen-least c.args.self.now.bits c.args.k c.loop-place.bits c.loop-place.taken all
