@@ -1,0 +1,4 @@
+pub mod Admitted
+pub mod Halves
+pub mod Sizes
+pub mod Walks

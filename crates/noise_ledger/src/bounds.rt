@@ -1,0 +1,105 @@
+ghost use Rattle.std.specs.Prelude.{◌≡◌, ◌^◌, ◌<◌, ◌≤◌};
+ghost use Rattle.param_set.specs.Numbers.{noise_limit};
+ghost use Rattle.noise_ledger.specs.Bounds.{numbers_of, limit, rotation_noise, relin_noise, input_bound, const_bound, sum_bound, neg_bound, plain_mul_bound, rot_bound, mul_bound, output_bound};
+
+use crate::gadget::switched;
+use crate::products::{crossed, rounding};
+use param_set::Params;
+
+/// F = B * (1 + n * (T + N)), of the encryption of an input.
+#[tactic(auto, unfolding(crate::specs::Bounds::input_bound))]
+pub fn input_bound(params: &Params) -> u128
+    ensures value { result ≡ input_bound (numbers_of params.now) }
+    ensures small { result < 2 ^ 104 }
+{
+    let parties = (params.threshold() + params.parties()) as u128;
+    params.err() as u128 * (1 + params.n() as u128 * parties)
+}
+
+/// 0, of a constant, whose ciphertext has no noise.
+pub fn const_bound(_params: &Params) -> u128
+    ensures { result ≡ const_bound }
+{
+    0
+}
+
+/// V1 + V2 + r, of a sum or a difference of nodes within V1 and V2, each at most L.
+#[tactic(auto, unfolding(crate::specs::Bounds::sum_bound))]
+pub fn sum_bound(params: &Params, v1: u128, v2: u128) -> u128
+    requires left { v1 ≤ limit (numbers_of params.now) }
+    requires right { v2 ≤ limit (numbers_of params.now) }
+    ensures value { result ≡ sum_bound (numbers_of params.now) v1 v2 }
+    ensures small { result < 2 ^ 104 }
+{
+    v1 + v2 + params.rem() as u128
+}
+
+/// V + r, of the negative of a node within V, at most L.
+#[tactic(auto, unfolding(crate::specs::Bounds::neg_bound))]
+pub fn neg_bound(params: &Params, v: u128) -> u128
+    requires { v ≤ limit (numbers_of params.now) }
+    ensures value { result ≡ neg_bound (numbers_of params.now) v }
+    ensures small { result < 2 ^ 104 }
+{
+    v + params.rem() as u128
+}
+
+/// n * (t - 1) * (V + r), of the product of a constant and a node within V, at most L.
+#[tactic(auto, unfolding(crate::specs::Bounds::plain_mul_bound))]
+pub fn plain_mul_bound(params: &Params, v: u128) -> u128
+    requires { v ≤ limit (numbers_of params.now) }
+    ensures value { result ≡ plain_mul_bound (numbers_of params.now) v }
+    ensures small { result < 2 ^ 104 }
+{
+    params.n() as u128 * (params.t() - 1) as u128 * (v + params.rem() as u128)
+}
+
+/// T * B, which bounds the noise of a row of a rotation key.
+fn rotation_noise(params: &Params) -> u128
+    ensures value { result ≡ rotation_noise (numbers_of params.now) }
+    ensures small { result ≤ 8160 }
+{
+    params.threshold() as u128 * params.err() as u128
+}
+
+/// T * B * (n * (N + T) + 2), which bounds the noise of a row of the relinearisation key.
+fn relin_noise(params: &Params) -> u128
+    ensures value { result ≡ relin_noise (numbers_of params.now) }
+    ensures small { result ≤ 2 ^ 31 }
+{
+    let parties = (params.parties() + params.threshold()) as u128;
+    rotation_noise(params) * (params.n() as u128 * parties + 2)
+}
+
+/// V + r + l * n * (2^b - 1) * T * B, of the rotation of a node within V, at most L.
+#[tactic(auto, unfolding(crate::specs::Bounds::rot_bound))]
+pub fn rot_bound(params: &Params, v: u128) -> u128
+    requires { v ≤ limit (numbers_of params.now) }
+    ensures value { result ≡ rot_bound (numbers_of params.now) v }
+    ensures small { result < 2 ^ 104 }
+{
+    v + params.rem() as u128 + switched(params, rotation_noise(params))
+}
+
+/// n * (K + 1) * (t * (V1 + V2) + 2 * r * (t - 1)) + (n * N + n^2 * N^2) / 2 + 1
+/// + l * n * (2^b - 1) * T * B * (n * (N + T) + 2), of the product of two nodes that aren't constants,
+/// within V1 and V2, each at most L. K = n * N / 2 + 1.
+#[tactic(auto, unfolding(crate::specs::Bounds::mul_bound))]
+pub fn mul_bound(params: &Params, v1: u128, v2: u128) -> u128
+    requires left { v1 ≤ limit (numbers_of params.now) }
+    requires right { v2 ≤ limit (numbers_of params.now) }
+    ensures value { result ≡ mul_bound (numbers_of params.now) v1 v2 }
+    ensures small { result < 2 ^ 104 }
+{
+    crossed(params, v1, v2) + rounding(params) + switched(params, relin_noise(params))
+}
+
+/// V + T * D_f, of what is decrypted, where the last node is within V, at most L.
+#[tactic(auto, unfolding(crate::specs::Bounds::output_bound))]
+pub fn output_bound(params: &Params, v: u128) -> u128
+    requires { v ≤ limit (numbers_of params.now) }
+    ensures value { result ≡ output_bound (numbers_of params.now) v }
+    ensures small { result < 2 ^ 104 }
+{
+    v + params.threshold() as u128 * params.flood() as u128
+}
