@@ -1,0 +1,5 @@
+pub mod States
+pub mod Issues
+pub mod Steps
+pub mod Histories
+pub mod Lanes

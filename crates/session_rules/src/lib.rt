@@ -1,0 +1,24 @@
+//! The rules of a session: its nine calls, their replies, and which instances are issued when.
+//!
+//! N parties hold a secret, and any T of them act. The helper's state (docs/SESSION.md) has the
+//! parties that are present, the instances of protocols, the inputs that are given, and how far each
+//! circuit has come; it holds no polynomial. `specs/` says for each caller and each call what the
+//! reply is and what the state is then: a history is legal where each reply is the one said there.
+//! Callers may rely on the laws of `proofs/`: of each signature at most one instance lives, and what
+//! was issued keeps its signature and its parties. Nothing is said here of shares or keys.
+#![tactic(auto)]
+
+mod call;
+mod fixed;
+mod line;
+mod moves;
+mod reply;
+mod state;
+
+pub use call::{Call, Entry};
+pub use fixed::{Fixed, Plan, PlanList};
+pub use line::Line;
+pub use moves::Move;
+pub use noise_ledger::Place;
+pub use reply::Reply;
+pub use state::CircuitState;
