@@ -156,5 +156,5 @@ KnowsNoSuchInstance =
 
 -- all of them
 pub all : Adds × Multiplies × LosesAParty × LosesTheSecondRound × KeepsWhatWasSent × CountsOnce × ComesLate × StaysOpen × GivesBothUp × GivesAJobBack × RefusesAStranger × KnowsNoSuchInstance
-unfolding states.has_live states.has_done states.opening issues.keys issues.enough issues.condition issues.may_issue issues.may_decrypt issues.next_decryption issues.next_signature issues.outdated issues.rule_1 issues.least_present issues.issued_as issues.rule_2 issues.next_move issues.instances_after issues.moves_in issues.issue_in issues.most_moves issues.moves issues.issue steps.join steps.falls steps.after_loss steps.lose steps.lacks_input steps.owed_of steps.owed_inputs steps.pending steps.told steps.brief steps.answered_by steps.counted steps.accepted steps.by_stage steps.deliver steps.is_input steps.input steps.has_keys steps.ready steps.next_ready steps.take steps.finish steps.give_back steps.step histories.after histories.replayed lanes.called lanes.shared lanes.shared_all lanes.given_all lanes.sent lanes.held lanes.gave lanes.worked lanes.quit lanes.did lanes.did_all lanes.served lanes.served_all lanes.sent_by_all lanes.worked_off lanes.round lanes.is_settled lanes.rounds lanes.settled lanes.joined_all lanes.serial sets.has sets.members_to sets.members instances.instance instances.lives instances.is_done instances.fresh instances.lacks instances.missing instances.with_share instances.after_share instances.after_void instances.after_lost instances.owed_shares groups.with_party groups.without_party groups.set_of groups.least_of groups.is_outside groups.first_outside groups.number_outside names.same names.rows_of
+unfolding states.has_live states.has_done states.opening issues.keys issues.enough issues.condition issues.may_issue issues.may_decrypt issues.next_decryption issues.next_signature issues.outdated issues.rule_1 issues.least_present issues.issued_as issues.rule_2 issues.next_move issues.instances_after issues.moves_in issues.issued_in issues.most_moves issues.moves issues.issue steps.join steps.falls steps.after_loss steps.lose steps.lacks_input steps.owed_of steps.owed_inputs steps.pending steps.told steps.brief steps.answered_by steps.counted steps.accepted steps.by_stage steps.deliver steps.is_input steps.input steps.has_keys steps.ready steps.next_ready steps.take steps.finish steps.give_back steps.step histories.after histories.replayed lanes.called lanes.shared lanes.shared_all lanes.given_all lanes.sent lanes.held lanes.gave lanes.worked lanes.quit lanes.did lanes.did_all lanes.served lanes.served_all lanes.sent_by_all lanes.worked_off lanes.round lanes.is_settled lanes.rounds lanes.settled lanes.joined_all lanes.serial sets.has sets.members_to sets.members instances.instance instances.lives instances.is_done instances.fresh instances.lacks instances.missing instances.with_share instances.after_share instances.after_void instances.after_lost instances.owed_shares groups.with_party groups.without_party groups.set_of groups.least_of groups.is_outside groups.first_outside groups.number_outside names.same names.rows_of
 all = (refl, refl, refl, refl, refl, refl, refl, refl, refl, refl, refl, refl)

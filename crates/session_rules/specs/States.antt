@@ -65,8 +65,8 @@ no_plan = record { owners = []; product = false; turns = []; opening = Answered 
 abbrev pub plan : Fixed → ℕ → Plan
 plan f c = slice_index_or f.plans c no_plan
 
-abbrev pub circuit : State → ℕ → CircuitState
-circuit s c = slice_index_or s.circuits c Answered
+abbrev pub circuit : List CircuitState → ℕ → CircuitState
+circuit circuits c = slice_index_or circuits c Answered
 
 -- whether input k of circuit c is given
 abbrev pub is_given : State → ℕ → ℕ → Bool

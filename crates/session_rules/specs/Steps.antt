@@ -150,7 +150,7 @@ has_keys s plan = (not plan.product || has_done Rlk2 s.instances) && list_all (h
 -- a circuit that may be evaluated: nobody does, its inputs are given, and its keys are complete
 unfoldable pub ready : Fixed → State → ℕ → Bool
 ready f s c =
-    is_idle (circuit s c) && list_all is_given_input (slice_index_or s.given c []) && has_keys s (plan f c)
+    is_idle (circuit s.circuits c) && list_all is_given_input (slice_index_or s.given c []) && has_keys s (plan f c)
 
 unfoldable pub next_ready : Fixed → State → Option ℕ
 next_ready f s = find (ready f s) (range_with_len 0 (length f.plans))
@@ -166,12 +166,12 @@ take f s caller = elim (next_ready f s) [
 
 unfoldable pub finish : Fixed → State → ℕ → ℕ → Reply × State
 finish f s caller c =
-    if is_taken_by caller (circuit s c) then (reply.Finished, issue f (with_circuit s c Evaluated))
+    if is_taken_by caller (circuit s.circuits c) then (reply.Finished, issue f (with_circuit s c Evaluated))
     else (reply.NotTaken, s)
 
 unfoldable pub give_back : State → ℕ → ℕ → Reply × State
 give_back s caller c =
-    if is_taken_by caller (circuit s c) then (reply.Returned, with_circuit s c Idle)
+    if is_taken_by caller (circuit s.circuits c) then (reply.Returned, with_circuit s c Idle)
     else (reply.NotTaken, s)
 
 -- ---- any call of any caller
