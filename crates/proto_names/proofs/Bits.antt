@@ -1,8 +1,8 @@
 -- Sets of parties as sums of powers of two.
-use Rattle.std.proofs.Common.{◌≡◌, ℕ, zero, suc, ◌+◌, ◌-◌, ◌*◌, ◌^◌, ◌<◌, ◌≤◌, List, [], ◌∷◌, ◌++◌, take, inl, inr, refl, sym, ap, ◌∙◌, arith}
+use Rattle.std.proofs.Common.{◌≡◌, ℕ, zero, suc, ◌+◌, ◌-◌, ◌^◌, ◌<◌, ◌≤◌, List, [], ◌∷◌, ◌++◌, length, take, inl, inr, refl, sym, ap, ◌∙◌, arith}
 use Rattle.std.proofs.lemmas.Bool.{cases_lt}
-use Rattle.std.proofs.lemmas.List.{append-nil}
-use Rattle.share_spec.specs.Sets.{has, members_to, members}
+use Rattle.std.proofs.lemmas.List.{append-nil, take_all}
+use Rattle.share_spec.specs.Sets.{members_to, members}
 use Rattle.proto_names.specs.Groups.{set_of, least_of}
 use Rattle.proto_names.proofs.Members.{Chosen, has_above, has_new, has_old, members_same, members_more, members_none, members_all, double}
 
@@ -38,3 +38,9 @@ pub Chosen-least : (set k bits taken : ℕ) → Chosen set k bits taken 32 → b
 unfolding least_of
 Chosen-least set k bits taken c =
     sym (set_of-members 32 bits c.small (omega arith)) ∙ ap set_of (c.chosen ∙ ap (take k) (sym (members_all set)))
+
+-- a set with no more than k members has no others than its k least
+pub least_of-all : (k bits : ℕ) → bits < 2 ^ 32 → length (members bits) ≤ k → bits ≡ least_of k bits
+unfolding least_of
+least_of-all k bits h l =
+    sym (ap set_of (take_all k (members bits) l) ∙ ap set_of (members_all bits) ∙ set_of-members 32 bits h (omega arith))

@@ -53,6 +53,13 @@ impl PartySet {
         }
     }
 
+    /// The k least members, or all where the set has fewer.
+    pub fn least_or_all(&self, k: u32) -> PartySet
+        ensures { result.bits ≡ least_of k self.now.bits }
+    {
+        least_or_all(self.bits, k)
+    }
+
     /// The set with party p too.
     #[tactic(auto, unfolding(crate::specs::Groups::with_party))]
     pub fn with(&self, p: u32) -> PartySet
@@ -91,6 +98,17 @@ impl PartySet {
         ensures { result ≡ number_outside self.now.bits other.now.bits }
     {
         (1..33u32).filter(|p| self.has(*p) && !other.has(*p)).count() as u32
+    }
+}
+
+/// The k least members of the set of some bits, or all where it has fewer.
+fn least_or_all(bits: u32, k: u32) -> PartySet
+    ensures { result.bits ≡ least_of k bits }
+{
+    let all = PartySet { bits };
+    match all.least(k) {
+        Some(some) => some,
+        None => all,
     }
 }
 

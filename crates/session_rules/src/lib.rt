@@ -10,6 +10,7 @@
 
 mod call;
 mod fixed;
+mod issue;
 mod line;
 mod moves;
 mod reply;
