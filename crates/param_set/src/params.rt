@@ -1,11 +1,17 @@
-ghost use Rattle.std.specs.Prelude.{◌≡◌, ℕ, ◌*◌, ◌/◌, ◌%◌, ◌^◌, ◌<◌, ◌≤◌, IsTrue};
+ghost use Rattle.std.specs.Prelude.{◌≡◌, ℕ, ◌-◌, ◌*◌, ◌/◌, ◌%◌, ◌^◌, ◌<◌, ◌≤◌, IsTrue, IfOk, IfErr, None};
 ghost use Rattle.std.specs.Int.{is_power_of_two};
-ghost use Rattle.param_set.specs.Numbers.{indivisible, noise_limit};
+ghost use Rattle.param_set.specs.Numbers.{indivisible, noise_limit, binary_digits, digit_rows};
+
+use crate::fault::ParamFault;
+use crate::raw::RawParams;
+use crate::root::power;
+use crate::rules::first_bad;
 
 /// The checked numbers of a session.
 ///
 /// Ring: R_q = Z_q\[X\]/(X^n+1), plaintexts modulo t. Noise: small draws within `err`, the flood of a
-/// decryption within `flood`. Sharing: any `threshold` of `parties` parties act together.
+/// decryption within `flood`. Sharing: any `threshold` of `parties` parties act together. Transforms:
+/// by the powers of `psi`, a residue with psi^n = -1 modulo q.
 #[derive(Clone, Copy)]
 pub struct Params {
     n: u64,
@@ -16,15 +22,61 @@ pub struct Params {
     flood: u64,
     parties: u64,
     threshold: u64,
+    psi: u64,
     pub ghost degree: { (8 ≤ n) × (n ≤ 4096) × IsTrue (is_power_of_two n) },
     pub ghost modulus: { (2 ^ 40 ≤ q) × (q < 2 ^ 55) × (q % (2 * n) ≡ 1) },
     pub ghost no_small_factor: { IsTrue (indivisible q 31) },
     pub ghost plain_modulus: { (2 ≤ t) × (t ≤ 65537) },
     pub ghost noise: { (1 ≤ digit_bits) × (digit_bits ≤ 16) × (1 ≤ err) × (err ≤ 255) × (flood ≤ 2 ^ 40) },
     pub ghost group: { (1 ≤ threshold) × (threshold ≤ parties) × (parties ≤ 32) },
+    pub ghost root: { (psi < q) × (psi ^ n % q ≡ q - 1) },
 }
 
 impl Params {
+    ghost use Rattle.param_set.specs.Rules.{first_bad as first_bad_field, root_of, root_power};
+    ghost use Rattle.param_set.specs.Faults.{IsFaultOf};
+
+    /// The parameters with these numbers, where each field keeps its rule and psi^n is -1 modulo q, for
+    /// psi = root^((q-1)/(2n)) mod q.
+    ///
+    /// Errors: `Bad` names the first field that breaks its rule; where none does, `NoRoot` tells what
+    /// psi^n is.
+    pub fn check(raw: &RawParams) -> Result<Params, ParamFault>
+        ensures rules { IfOk result (λ _. first_bad_field raw.now ≡ None) }
+        ensures root { IfOk result (λ _. root_power raw.now ≡ raw.now.q - 1) }
+        ensures n { IfOk result (λ params. params.n ≡ raw.now.n) }
+        ensures q { IfOk result (λ params. params.q ≡ raw.now.q) }
+        ensures t { IfOk result (λ params. params.t ≡ raw.now.t) }
+        ensures digit_bits { IfOk result (λ params. params.digit_bits ≡ raw.now.digit_bits) }
+        ensures err { IfOk result (λ params. params.err ≡ raw.now.err) }
+        ensures flood { IfOk result (λ params. params.flood ≡ raw.now.flood) }
+        ensures parties { IfOk result (λ params. params.parties ≡ raw.now.parties) }
+        ensures threshold { IfOk result (λ params. params.threshold ≡ raw.now.threshold) }
+        ensures psi { IfOk result (λ params. params.psi ≡ root_of raw.now) }
+        ensures fault { IfErr result (IsFaultOf raw.now) }
+    {
+        if let Some(field) = first_bad(raw) {
+            let value = raw.value(field);
+            return Err(ParamFault::Bad { field, value });
+        }
+        let psi = power(raw.root, (raw.q - 1) / (2 * raw.n), raw.q);
+        let value = power(psi, raw.n, raw.q);
+        if value != raw.q - 1 {
+            return Err(ParamFault::NoRoot { value });
+        }
+        Ok(Params {
+            n: raw.n,
+            q: raw.q,
+            t: raw.t,
+            digit_bits: raw.digit_bits,
+            err: raw.err,
+            flood: raw.flood,
+            parties: raw.parties,
+            threshold: raw.threshold,
+            psi,
+        })
+    }
+
     /// The frame of the first scripts: n = 8, q = 7 * 2^52 + 1, t = 16, digits of 8 bits, and noise
     /// and flood within 1, for `threshold` of `parties` parties.
     pub fn frame(parties: u64, threshold: u64) -> Params
@@ -49,6 +101,7 @@ impl Params {
             flood: 1,
             parties,
             threshold,
+            psi: 1_791_537_114_801_093,
         }
     }
 
@@ -108,6 +161,23 @@ impl Params {
         self.threshold
     }
 
+    /// A residue with psi^n = -1 modulo q.
+    pub fn psi(&self) -> u64
+        ensures { result ≡ self.now.psi }
+    {
+        self.psi
+    }
+
+    /// l, the number of digits of a residue, which is the number of rows of the gadget.
+    pub fn rows(&self) -> u64
+        ensures rows { result ≡ digit_rows self.now.q self.now.digit_bits }
+        ensures some { 1 ≤ result }
+        ensures few { result ≤ 55 }
+        ensures whole { self.now.q < 2 ^ (self.now.digit_bits * result) }
+    {
+        bits(self.q).div_ceil(self.digit_bits)
+    }
+
     /// D = floor(q/t), by which a plaintext is scaled.
     pub fn delta(&self) -> u64
         ensures { result ≡ self.now.q / self.now.t }
@@ -128,4 +198,15 @@ impl Params {
     {
         (self.q - 1 - 2 * self.rem() * (self.t - 1)) / (2 * self.t)
     }
+}
+
+/// The number of binary digits of q.
+fn bits(q: u64) -> u64
+    requires { 0 < q }
+    ensures digits { result ≡ binary_digits q }
+    ensures some { 1 ≤ result }
+    ensures below { q < 2 ^ result }
+    ensures top { 2 ^ (result - 1) ≤ q }
+{
+    64 - u64::from(q.leading_zeros())
 }

@@ -1,0 +1,4 @@
+pub mod Digits
+pub mod Divisors
+pub mod Judged
+pub mod Squarings
