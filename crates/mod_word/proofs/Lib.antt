@@ -1,0 +1,2 @@
+pub mod Shoup
+pub mod Halves
