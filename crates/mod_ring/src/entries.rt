@@ -1,5 +1,7 @@
-ghost use Rattle.std.specs.Prelude.{◌≡◌, ℕ, ◌+◌, ◌*◌, ◌%◌, ◌^◌, ◌<◌, length, pos, ◌+ℤ◌, ◌-ℤ◌, ◌*ℤ◌, neg_ℤ};
+ghost use Rattle.std.specs.Prelude.{◌≡◌, ℕ, ◌+◌, ◌*◌, ◌%◌, ◌^◌, ◌<◌, ◌≤◌, length, pos, ◌+ℤ◌, ◌-ℤ◌, ◌*ℤ◌, neg_ℤ};
 ghost use Rattle.ring_spec.specs.Ring.{IsPoly, residue, ring_sum, ring_difference, ring_negative, ring_multiple};
+
+use mod_word::Factor;
 
 /// x + y modulo q, without a division.
 #[tactic(auto, unfolding(ring_spec::specs::Ring::residue))]
@@ -33,13 +35,12 @@ fn negative_of(q: u64, x: u64) -> u64
     if x == 0 { 0 } else { q - x }
 }
 
-/// k * x modulo q.
+/// k * x modulo q, for the factor k.
 #[tactic(auto, unfolding(ring_spec::specs::Ring::residue))]
-fn multiple_of(q: u64, k: u64, x: u64) -> u64
-    requires modulus { 0 < q }
-    ensures { result ≡ residue q (pos k *ℤ pos x) }
+fn multiple_of(factor: &Factor, x: u64) -> u64
+    ensures { result ≡ residue factor.now.modulus (pos factor.now.residue *ℤ pos x) }
 {
-    (k as u128 * x as u128 % q as u128) as u64
+    factor.times(x)
 }
 
 /// Adds f to acc, entry by entry.
@@ -78,10 +79,12 @@ pub(crate) fn neg_entries(q: u64, acc: &mut [u64])
 
 /// Multiplies each entry by k.
 pub(crate) fn scale_entries(q: u64, acc: &mut [u64], k: u64)
-    requires { 0 < q }
+    requires few_bits { q ≤ 2 ^ 62 }
+    requires factor { k < q }
     ensures { acc.new ≡ ring_multiple q (length acc.old) k acc.old }
 {
+    let factor = Factor::new(q, k);
     for i in 0..acc.len() {
-        acc[i] = multiple_of(q, k, acc[i]);
+        acc[i] = multiple_of(&factor, acc[i]);
     }
 }
