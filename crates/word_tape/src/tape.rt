@@ -2,6 +2,7 @@ ghost use Rattle.std.specs.Prelude.{◌≡◌, ℕ, ◌+◌, ◌*◌, ◌^◌, �
 ghost use Rattle.draw_spec.specs.Draws.{word as word_of, uniform as uniform_of, small as small_of, wide as wide_of, ternary as ternary_of};
 ghost use Rattle.word_tape.specs.Standing.{moved};
 
+use mod_word::Modulus;
 use rand_chacha::ChaCha20Rng;
 use rand_core::SeedableRng;
 use rand_core::utils::NextWord;
@@ -79,6 +80,17 @@ impl Tape {
         let low = self.pair() as u128;
         let high = self.pair() as u128;
         ((low + 18_446_744_073_709_551_616 * high) % q as u128) as u64
+    }
+
+    /// `uniform` for a modulus that was made before, without a division.
+    #[tactic(auto, unfolding(draw_spec::specs::Draws::uniform), using(crate::proofs::Places::word_wraps))]
+    pub fn uniform_by(&mut self, modulus: &Modulus) -> u64
+        ensures value { result ≡ uniform_of self.old.seed self.old.stream modulus.now.q self.old.next }
+        ensures place { self.new ≡ moved self.old 4 }
+    {
+        let low = self.pair();
+        let high = self.pair();
+        modulus.wide(low, high)
     }
 
     /// A number from -bound to bound: a word modulo 2 * bound + 1, less bound.

@@ -1,5 +1,6 @@
 //! The first words of streams, as RFC 8439 prints them, and each draw from them.
 use crate::Tape;
+use mod_word::Modulus;
 use std::test::Fail;
 
 #[test]
@@ -32,5 +33,9 @@ fn draws_from_the_words(rt: HostRuntime) -> Result<(), Fail> {
         19_154_914_869_124_687
     );
     assert_eq!(rt; tape.uniform(31_525_197_391_593_473), 2_176_810_963_123_680);
+    let modulus = Modulus::new(31_525_197_391_593_473);
+    let mut tape = Tape::new([0; 32], 0);
+    assert_eq!(rt; tape.uniform_by(&modulus), 19_154_914_869_124_687);
+    assert_eq!(rt; tape.uniform_by(&modulus), 2_176_810_963_123_680);
     Ok(())
 }
