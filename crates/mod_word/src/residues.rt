@@ -11,6 +11,7 @@ pub struct Modulus {
     unit: Factor,
     /// 2^64 modulo q
     carry: Factor,
+    pub ghost positive: { 1 ≤ q },
     pub ghost few_bits: { q ≤ 2 ^ 62 },
     pub ghost unit_is: { (unit.modulus ≡ q) × (unit.residue ≡ 1 % q) },
     pub ghost carry_is: { (carry.modulus ≡ q) × (carry.residue ≡ 2 ^ 64 % q) },
