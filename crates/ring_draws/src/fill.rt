@@ -3,17 +3,20 @@ ghost use Rattle.bfv_spec.specs.Drawn.{uniform_poly, small_poly, wide_poly, tern
 ghost use Rattle.word_tape.specs.Standing.{moved};
 
 use mod_ring::residue_of;
+use mod_word::Modulus;
 use word_tape::Tape;
 
 /// Makes each entry a uniform draw modulo q.
 pub(crate) fn fill_uniform(q: u64, entries: &mut [u64], tape: &mut Tape)
     requires modulus { 1 ≤ q }
+    requires few_bits { q ≤ 2 ^ 62 }
     requires some { 1 ≤ length entries.old }
     ensures value { entries.new ≡ uniform_poly q (length entries.old) tape.old.seed tape.old.stream tape.old.next }
     ensures place { tape.new ≡ moved tape.old (4 * length entries.old) }
 {
+    let modulus = Modulus::new(q);
     for i in 0..entries.len() {
-        entries[i] = tape.uniform(q);
+        entries[i] = tape.uniform_by(&modulus);
     }
 }
 
