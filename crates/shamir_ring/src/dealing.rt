@@ -4,6 +4,7 @@ ghost use Rattle.share_spec.specs.Dealing.{dealing, value_at};
 
 use crate::values::horner;
 use mod_ring::{Poly, Ring, of_residues};
+use mod_word::Modulus;
 use ring_draws::{ternary, uniform};
 use std::alloc::{AllocError, Global};
 use std::marker::Model;
@@ -59,12 +60,13 @@ impl Dealing {
         ensures fits { IfOk result (λ f. IsPoly ring.now.params.q ring.now.params.n f) }
     {
         let params = ring.params();
+        let modulus = Modulus::new(params.q());
         let mut value = vec![in alloc; 0; params.n() as usize]?;
         let entries = value.as_mut_slice();
         for place in 0..self.coefficients.len() {
             let from_the_last = self.coefficients.len() - 1 - place;
             horner(
-                params.q(),
+                &modulus,
                 entries,
                 u64::from(point),
                 self.coefficients[from_the_last].coeffs(),

@@ -99,3 +99,43 @@ fn coefficients_of_two_parties(rt: HostRuntime) -> Result<(), AllocError> {
     }
     Ok(())
 }
+
+/// The products of 85142929 and 115569217, and of 67169537 and 101394049.
+const COMPOSITE: [u64; 2] = [9_839_901_637_616_593, 6_810_591_325_885_313];
+
+#[test]
+#[tactic(auto, unfolding(param_set::specs::Numbers::indivisible))]
+fn coefficients_modulo_composite_numbers(rt: HostRuntime) -> Result<(), AllocError> {
+    for (bits, j, first, second) in [
+        (5, 1, 4_919_950_818_808_298, 3_405_295_662_942_658),
+        (5, 3, 4_919_950_818_808_296, 3_405_295_662_942_656),
+        (22, 3, 9_839_901_637_616_588, 6_810_591_325_885_308),
+        (22, 4, 0, 0),
+        (
+            2_147_483_649,
+            1,
+            2_856_745_636_727_399,
+            1_098_482_471_916_987,
+        ),
+        (
+            2_147_483_649,
+            32,
+            6_983_156_000_889_195,
+            5_712_108_853_968_327,
+        ),
+        (
+            4_294_967_295,
+            16,
+            9_839_901_036_536_203,
+            6_810_590_724_804_923,
+        ),
+    ] {
+        let set = PartySet { bits };
+        let both = [
+            lagrange(COMPOSITE[0], set, j),
+            lagrange(COMPOSITE[1], set, j),
+        ];
+        assert_eq!(rt; both, [first, second], "party {j} of the set {bits}");
+    }
+    Ok(())
+}

@@ -11,5 +11,5 @@ step-requires-clause-left c =
 pub returns : goal.returns
 returns c =
     let v = c.args.value.now in
-    steps_are c.args.q (length v) c.args.point v c.args.f.now c.loop-i.value c.requires.positive
-    (Filled-end (stepped c.args.q c.args.point v c.args.f.now) v c.loop-i.value (length v) c.loop-i.i c.loop-i.auto.value (omega arith) c.loop-i.invariant)
+    steps_are c.args.modulus.now.q (length v) c.args.point v c.args.f.now c.loop-i.value c.args.modulus.now.positive
+    (Filled-end (stepped c.args.modulus.now.q c.args.point v c.args.f.now) v c.loop-i.value (length v) c.loop-i.i c.loop-i.auto.value (omega arith) c.loop-i.invariant)
