@@ -31,6 +31,13 @@ impl Modulus {
         }
     }
 
+    /// q itself.
+    pub fn q(&self) -> u64
+        ensures { result ≡ self.now.q }
+    {
+        self.q
+    }
+
     /// x modulo q, without a division.
     #[inline]
     pub fn word(&self, x: u64) -> u64

@@ -15,9 +15,9 @@ loop-i-preserved c =
     let g = c.args.g.now in
     let i = c.loop-i.i in
     let j = c.args.k - i in
-    let x : get_or f i 0 < c.args.q = c.requires.left.below i 0 (omega arith) in
-    let y : get_or g j 0 < c.args.q = c.requires.right.below j 0 (omega arith) in
-    let bound = product-bound c.args.q (get_or f i 0) (get_or g j 0) x y c.requires.modulus_high in
+    let x : get_or f i 0 < c.args.modulus.now.q = c.requires.left.below i 0 (omega arith) in
+    let y : get_or g j 0 < c.args.modulus.now.q = c.requires.right.below j 0 (omega arith) in
+    let bound = product-bound c.args.modulus.now.q (get_or f i 0) (get_or g j 0) x y c.requires.few_bits in
     record {
       small = omega arith;
       sum = sum-low f g (length f) c.args.k i c.loop-i.plus (omega arith) c.loop-i.invariant.sum;
@@ -29,9 +29,9 @@ loop-j-preserved c =
     let g = c.args.g.now in
     let i = c.loop-j.j in
     let j = c.args.k + length f - i in
-    let x : get_or f i 0 < c.args.q = c.requires.left.below i 0 (omega arith) in
-    let y : get_or g j 0 < c.args.q = c.requires.right.below j 0 (omega arith) in
-    let bound = product-bound c.args.q (get_or f i 0) (get_or g j 0) x y c.requires.modulus_high in
+    let x : get_or f i 0 < c.args.modulus.now.q = c.requires.left.below i 0 (omega arith) in
+    let y : get_or g j 0 < c.args.modulus.now.q = c.requires.right.below j 0 (omega arith) in
+    let bound = product-bound c.args.modulus.now.q (get_or f i 0) (get_or g j 0) x y c.requires.few_bits in
     record {
       begins = omega arith;
       small = omega arith;
@@ -42,4 +42,4 @@ pub returns : goal.returns
 unfolding wrapped
 returns c =
     let at_end : c.loop-j.j ≡ length c.args.f.now = omega arith in
-    c.reduced.ensures ∙ ap (residue c.args.q) (rw at_end at c.loop-j.invariant.sum)
+    c.reduced.ensures ∙ ap (residue c.args.modulus.now.q) (rw at_end at c.loop-j.invariant.sum)
