@@ -1,8 +1,7 @@
 -- The bound on the noise of a node, one row a kind of node. All numbers are whole, and each division
 -- by 2 is exact, since n is even. docs/MATHEMATICS.md, 'Noise bounds', has the argument.
 use Rattle.std.specs.Prelude.{ℕ, ◌+◌, ◌-◌, ◌*◌, ◌/◌, ◌%◌, ◌^◌}
-use Rattle.std.specs.Int.{w64, leading_zeros, div_ceil}
-use Rattle.param_set.specs.Numbers.{noise_limit}
+use Rattle.param_set.specs.Numbers.{noise_limit, digit_rows}
 use Rattle.param_set.specs.declared.params.Params.{Params}
 
 -- ---- the numbers that bounds are made of
@@ -38,13 +37,6 @@ limit p = noise_limit p.q p.t
 -- r = q mod t
 abbrev pub rest : Numbers → ℕ
 rest p = p.q % p.t
-
--- how many binary digits q has, and l, how many digits of so many bits a residue modulo q takes
-abbrev pub binary_digits : ℕ → ℕ
-binary_digits q = 64 - leading_zeros w64 q
-
-abbrev pub digit_rows : ℕ → ℕ → ℕ
-digit_rows q digit_bits = div_ceil (binary_digits q) digit_bits
 
 -- ---- key switches
 

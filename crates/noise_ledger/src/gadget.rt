@@ -1,15 +1,7 @@
 ghost use Rattle.std.specs.Prelude.{◌≡◌, ◌-◌, ◌^◌, ◌<◌, ◌≤◌};
-ghost use Rattle.noise_ledger.specs.Bounds.{numbers_of, digit_rows, switched};
+ghost use Rattle.noise_ledger.specs.Bounds.{numbers_of, switched};
 
 use param_set::Params;
-
-/// l, the number of digits of a residue, which is the number of rows of the gadget.
-fn rows(params: &Params) -> u64
-    ensures value { result ≡ digit_rows params.now.q params.now.digit_bits }
-    ensures few { result ≤ 64 }
-{
-    (64 - u64::from(params.q().leading_zeros())).div_ceil(params.digit_bits())
-}
 
 /// The greatest digit, 2^b - 1.
 #[tactic(auto, using(crate::proofs::Sizes::digit_is, crate::proofs::Sizes::digit_small))]
@@ -27,6 +19,6 @@ pub(crate) fn switched(params: &Params, noise: u128) -> u128
     ensures value { result ≡ switched (numbers_of params.now) noise }
     ensures small { result ≤ 2 ^ 65 }
 {
-    let digits = rows(params) as u128 * params.n() as u128;
+    let digits = params.rows() as u128 * params.n() as u128;
     digits * greatest_digit(params) as u128 * noise
 }
