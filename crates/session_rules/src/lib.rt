@@ -13,6 +13,7 @@ mod fixed;
 mod issue;
 mod line;
 mod moves;
+mod planning;
 mod reply;
 mod state;
 

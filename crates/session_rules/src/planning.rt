@@ -1,0 +1,123 @@
+//! The moves that the rules of issue make, found out on a copy of the instances.
+ghost use Rattle.std.specs.Prelude.{◌≡◌, ◌+◌, ◌^◌, ◌<◌, ◌≤◌, map, length, IfOk};
+ghost use Rattle.std.specs.List.{count_by};
+ghost use Rattle.proto_names.specs.Instances.{fresh, given_up, after_void, is_of};
+ghost use Rattle.session_rules.specs.Issues.{keys, instances_after, moves_in, most_moves};
+
+use crate::issue::next_move;
+use crate::{CircuitState, Fixed, Move};
+use proto_names::{Instance, PartySet, Signature, Stage};
+use std::alloc::{AllocError, Global};
+
+/// An instance, given up if it has this number.
+fn given_up(id: u32, by: u32, instance: &Instance) -> Instance
+    ensures { result ≡ given_up id by instance.now }
+{
+    if instance.id == id {
+        Instance {
+            stage: Stage::Void { by },
+            ..*instance
+        }
+    } else {
+        *instance
+    }
+}
+
+/// How many instances of a signature there are.
+fn attempts(signature: Signature, instances: &[Instance]) -> u32
+    requires { length instances.now < 2 ^ 30 }
+    ensures { result ≡ count_by (is_of signature) instances.now }
+{
+    instances
+        .iter()
+        .filter(|instance| instance.signature.is(signature))
+        .count() as u32
+}
+
+/// The next instance.
+#[tactic(auto, unfolding(proto_names::specs::Instances::fresh))]
+fn fresh(instances: &[Instance], signature: Signature, set: PartySet, round1: u32) -> Instance
+    requires { length instances.now < 2 ^ 30 }
+    ensures { result ≡ fresh instances.now signature set round1 }
+{
+    Instance {
+        id: instances.len() as u32 + 1,
+        signature,
+        set,
+        attempt: attempts(signature, instances) + 1,
+        sent: PartySet { bits: 0 },
+        stage: Stage::Opened,
+        round1,
+    }
+}
+
+/// All instances, of which that of this number is given up.
+#[tactic(auto, unfolding(proto_names::specs::Instances::after_void))]
+fn after_void(
+    alloc: Global,
+    id: u32,
+    by: u32,
+    instances: &[Instance],
+) -> Result<Vec<Instance>, AllocError>
+    ensures { IfOk result (λ v. v.items ≡ after_void id by instances.now) }
+{
+    instances
+        .iter()
+        .map(|instance| given_up(id, by, instance))
+        .collect(alloc)
+}
+
+/// The instances after a move.
+#[tactic(auto, unfolding(crate::specs::Issues::instances_after))]
+fn instances_after(
+    alloc: Global,
+    instances: Vec<Instance>,
+    made: Move,
+) -> Result<Vec<Instance>, AllocError>
+    requires { length instances.items < 2 ^ 30 }
+    ensures { IfOk result (λ v. v.items ≡ instances_after instances.items made) }
+{
+    match made {
+        Move::GiveUp { id, by } => after_void(alloc, id, by, instances.as_slice()),
+        Move::Issue {
+            signature,
+            set,
+            round1,
+        } => {
+            let next = fresh(instances.as_slice(), signature, set, round1);
+            let mut instances = instances;
+            instances.push(next)?;
+            Ok(instances)
+        }
+    }
+}
+
+/// The moves that the rules of issue make until neither applies, in their order; nothing is changed.
+pub fn moves(
+    alloc: Global,
+    fixed: &Fixed,
+    needed: &[Signature],
+    present: &PartySet,
+    instances: Vec<Instance>,
+    circuits: &[CircuitState],
+) -> Result<Vec<Move>, AllocError>
+    requires keys { needed.now ≡ keys fixed.now }
+    requires plans { length fixed.now.plans ≡ length circuits.now }
+    requires few { length circuits.now ≤ 64 }
+    requires few_keys { length needed.now ≤ 32 }
+    requires few_instances { length instances.items ≤ 2 ^ 29 }
+    ensures { IfOk result (λ v. v.items ≡ moves_in (most_moves fixed.now) fixed.now present.now.bits instances.items circuits.now) }
+{
+    let mut instances = instances;
+    let mut made = Vec::new(alloc);
+    'steps: for _ in 0..needed.len() + circuits.len() + 2 {
+        match next_move(fixed, needed, present, instances.as_slice(), circuits) {
+            None => return Ok(made),
+            Some(next) => {
+                instances = instances_after(alloc, instances, next)?;
+                made.push(next)?;
+            }
+        }
+    }
+    Ok(made)
+}
