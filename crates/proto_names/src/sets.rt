@@ -97,7 +97,9 @@ impl PartySet {
     pub fn outside(&self, other: &PartySet) -> u32
         ensures { result ≡ number_outside self.now.bits other.now.bits }
     {
-        (1..33u32).filter(|p| self.has(*p) && !other.has(*p)).count() as u32
+        (1..33u32)
+            .filter(|p| self.has(*p) && !other.has(*p))
+            .count() as u32
     }
 }
 

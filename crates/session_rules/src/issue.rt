@@ -38,7 +38,9 @@ pub fn has_live(signature: Signature, instances: &[Instance]) -> bool
 pub fn has_done(signature: Signature, instances: &[Instance]) -> bool
     ensures { result ≡ has_done signature instances.now }
 {
-    instances.iter().any(|instance| is_done(signature, instance))
+    instances
+        .iter()
+        .any(|instance| is_done(signature, instance))
 }
 
 /// Whether as many parties are present as act together.
@@ -131,10 +133,7 @@ fn first_key(
 ) -> Option<Signature>
     ensures { result ≡ find (may_issue fixed.now present.now.bits instances.now) needed.now }
 {
-    needed
-        .iter()
-        .copied()
-        .find(|signature| may_issue(fixed, present, instances, *signature))
+    needed.iter().copied().find(|signature| may_issue(fixed, present, instances, *signature))
 }
 
 /// The first signature that is needed and may be issued.
