@@ -1,7 +1,7 @@
 -- A multiple of w modulo q by the quotient that was taken before.
 use Rattle.std.proofs.Common.{◌≡◌, ℕ, ◌+◌, ◌-◌, ◌*◌, ◌/◌, ◌%◌, ◌^◌, ◌<◌, ◌≤◌, sym, ◌∙◌, ap, arith}
 use Rattle.std.proofs.Math.Nat.{div-add-mod, mul-le-mul_left, mul-le-mul_right, add-mul-mod_self_right}
-use Rattle.std.proofs.lemmas.Nat.{mod_below}
+use Rattle.std.proofs.lemmas.Nat.{mod_below, div-mul-add, mod-mul-add}
 
 -- with s the quotient and h the high word of s * x, w * x is from h * q to less than h * q + 2q
 pub shoup : (q w s x h : ℕ) → 0 < q → s ≡ w * 2 ^ 64 / q → x < 2 ^ 64 → h ≡ s * x / 2 ^ 64 → (h * q ≤ w * x) × (w * x < h * q + 2 * q)
@@ -25,3 +25,10 @@ pub taken_off : (q a h : ℕ) → h * q ≤ a → (a - h * q) % q ≡ a % q
 taken_off q a h l =
     let e : a - h * q + h * q ≡ a = omega arith in
     sym (add-mul-mod_self_right (a - h * q) h q) ∙ ap (λ z. z % q) e
+
+-- where a rest below q is left, the multiple is the quotient
+pub quotient_is : (q a h r : ℕ) → r < q → h * q + r ≡ a → h ≡ a / q
+quotient_is q a h r below whole = sym (div-mul-add h q r below) ∙ ap (λ z. z / q) whole
+
+pub rest_is : (q a h r : ℕ) → r < q → h * q + r ≡ a → r ≡ a % q
+rest_is q a h r below whole = sym (mod-mul-add h q r below) ∙ ap (λ z. z % q) whole

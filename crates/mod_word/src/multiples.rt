@@ -1,4 +1,4 @@
-ghost use Rattle.std.specs.Prelude.{◌≡◌, ◌*◌, ◌/◌, ◌%◌, ◌^◌, ◌<◌, ◌≤◌};
+ghost use Rattle.std.specs.Prelude.{◌≡◌, ◌+◌, ◌*◌, ◌/◌, ◌%◌, ◌^◌, ◌<◌, ◌≤◌};
 ghost use Rattle.mod_word.specs.Quotients.{quotient_of};
 
 use crate::words::lowered;
@@ -37,14 +37,38 @@ impl Factor {
         lowered(self.modulus, self.near(x))
     }
 
-    /// A number below 2q that is w * x modulo q: Shoup's product.
+    /// w * x / q, rounded down, and w * x modulo q, without a division.
+    #[inline]
+    pub fn divided(&self, x: u64) -> (u64, u64)
+        ensures quotient { result.0 ≡ self.now.residue * x / self.now.modulus }
+        ensures rest { result.1 ≡ self.now.residue * x % self.now.modulus }
+    {
+        let (times, rest) = self.parted(x);
+        if rest < self.modulus {
+            (times, rest)
+        } else {
+            (times + 1, rest - self.modulus)
+        }
+    }
+
+    /// A number below 2q that is w * x modulo q.
     #[inline]
     pub(crate) fn near(&self, x: u64) -> u64
         ensures below { result < 2 * self.now.modulus }
         ensures same { result % self.now.modulus ≡ self.now.residue * x % self.now.modulus }
     {
+        self.parted(x).1
+    }
+
+    /// A multiple of q and a rest below 2q whose sum is w * x: Shoup's product.
+    #[inline]
+    fn parted(&self, x: u64) -> (u64, u64)
+        ensures below { result.1 < 2 * self.now.modulus }
+        ensures whole { result.0 * self.now.modulus + result.1 ≡ self.now.residue * x }
+    {
         let times = (self.quotient as u128 * x as u128) >> 64;
-        (self.residue as u128 * x as u128 - times * self.modulus as u128) as u64
+        let rest = self.residue as u128 * x as u128 - times * self.modulus as u128;
+        (times as u64, rest as u64)
     }
 }
 

@@ -5,9 +5,11 @@ use std::test::Fail;
 /// The greatest modulus, 2^62.
 const GREATEST: u64 = 4_611_686_018_427_387_904;
 
-fn multiple(q: u64, w: u64, x: u64) -> Option<u64> {
+fn multiple(q: u64, w: u64, x: u64) -> Option<(u64, u64, u64)> {
     if w < q && q <= GREATEST {
-        return Some(Factor::new(q, w).times(x));
+        let factor = Factor::new(q, w);
+        let (quotient, rest) = factor.divided(x);
+        return Some((factor.times(x), quotient, rest));
     }
     None
 }
@@ -21,38 +23,74 @@ fn residues(q: u64, low: u64, high: u64) -> Option<(u64, u64)> {
 }
 
 #[test]
-fn multiplies(rt: HostRuntime) -> Result<(), Fail> {
-    for (q, w, x, want) in [
-        (1, 0, u64::MAX, 0),
-        (2, 1, u64::MAX, 1),
-        (7, 6, 9, 5),
+fn multiplies_and_divides(rt: HostRuntime) -> Result<(), Fail> {
+    for (q, w, x, quotient, rest) in [
+        (1, 0, u64::MAX, 0, 0),
+        (2, 1, u64::MAX, 9_223_372_036_854_775_807, 1),
+        (7, 6, 9, 7, 5),
+        (7, 3, 7, 3, 0),
         (
             31_525_197_391_593_473,
             31_525_197_391_593_472,
             u64::MAX,
+            18_446_744_073_709_551_029,
             27_021_597_764_223_563,
         ),
         (
             31_525_197_391_593_473,
             15_762_598_695_796_737,
             12_345_678_901_234_567_890,
+            6_172_839_450_617_284_140,
             25_425_959_256_556_710,
+        ),
+        (
+            31_525_197_391_593_473,
+            65_537,
+            31_525_197_391_593_472,
+            65_536,
+            31_525_197_391_527_936,
+        ),
+        (
+            31_525_197_391_593_473,
+            65_537,
+            31_525_197_391_593_473,
+            65_537,
+            0,
         ),
         (
             4_611_686_018_427_387_847,
             4_611_686_018_427_387_846,
             u64::MAX,
+            18_446_744_073_709_551_610,
             4_611_686_018_427_387_620,
         ),
-        (GREATEST, GREATEST - 1, u64::MAX, 1),
+        (
+            4_611_686_018_427_387_847,
+            4_611_686_018_427_387_846,
+            4_611_686_018_427_387_847,
+            4_611_686_018_427_387_846,
+            0,
+        ),
+        (
+            GREATEST,
+            GREATEST - 1,
+            u64::MAX,
+            18_446_744_073_709_551_611,
+            1,
+        ),
         (
             GREATEST,
             2_305_843_009_213_693_952,
             3,
+            1,
             2_305_843_009_213_693_952,
         ),
     ] {
-        assert_eq!(rt; multiple(q, w, x), Some(want), "{w} times {x} modulo {q}");
+        assert_eq!(rt;
+            multiple(q, w, x),
+            Some((rest, quotient, rest)),
+            "{w} times {x} by {q}"
+        );
     }
     Ok(())
 }
