@@ -1,22 +1,35 @@
-ghost use Rattle.std.specs.Prelude.{◌≡◌, ℕ, ◌^◌, ◌<◌, ◌≤◌, length, IfOk};
+ghost use Rattle.std.specs.Prelude.{◌≡◌, ℕ, ◌+◌, ◌*◌, ◌/◌, ◌^◌, ◌<◌, ◌≤◌, All, length, IfOk};
 ghost use Rattle.ring_spec.specs.Ring.{IsPoly};
 ghost use Rattle.bfv_spec.specs.Scheme.{decryption, rounded};
 
 use mod_ring::{Poly, Ring};
+use mod_word::Factor;
 use param_set::Plain;
 use std::alloc::{AllocError, Global};
 
-/// t * x / q to the nearest whole number, modulo t.
-fn rounded_of(q: u64, t: u64, x: u64) -> u64
-    requires modulus { 0 < q }
-    requires modulus_high { q < 2 ^ 55 }
+/// t * x / q to the nearest whole number, for the factor t modulo q, without a division.
+fn nearest_of(factor: &Factor, q: u64, t: u64, x: u64) -> u64
+    requires modulus { factor.now.modulus ≡ q }
+    requires multiple { factor.now.residue ≡ t }
     requires plain_modulus { 0 < t }
-    requires plain_modulus_high { t ≤ 65537 }
+    requires residue { x < q }
+    ensures nearest { result ≡ (2 * t * x + q) / (2 * q) }
+    ensures at_most_t { result ≤ t }
+{
+    let (quotient, rest) = factor.divided(x);
+    if 2 * rest < q { quotient } else { quotient + 1 }
+}
+
+/// t * x / q to the nearest whole number, modulo t.
+fn rounded_of(factor: &Factor, q: u64, t: u64, x: u64) -> u64
+    requires modulus { factor.now.modulus ≡ q }
+    requires multiple { factor.now.residue ≡ t }
+    requires plain_modulus { 0 < t }
+    requires residue { x < q }
     ensures { result ≡ rounded q t x }
 {
-    let q = q as u128;
-    let t = t as u128;
-    ((2 * t * x as u128 + q) / (2 * q) % t) as u64
+    let nearest = nearest_of(factor, q, t, x);
+    if nearest == t { 0 } else { nearest }
 }
 
 /// The plaintext of a phase: each coefficient x gives t * x / q to the nearest whole number, modulo t.
@@ -33,11 +46,15 @@ pub fn round_phase(alloc: Global, ring: &Ring, phase: &Poly) -> Result<Plain, Al
 /// Each entry rounded.
 #[tactic(auto, unfolding(bfv_spec::specs::Scheme::decryption))]
 fn rounded_all(alloc: Global, q: u64, t: u64, entries: &[u64]) -> Result<Vec<u64>, AllocError>
-    requires modulus { 0 < q }
     requires modulus_high { q < 2 ^ 55 }
     requires plain_modulus { 0 < t }
-    requires plain_modulus_high { t ≤ 65537 }
+    requires plain_below { t < q }
+    requires residues { All (λ x. x < q) entries.now }
     ensures { IfOk result (λ v. v.items ≡ decryption q t entries.now) }
 {
-    entries.iter().map(|x| rounded_of(q, t, *x)).collect(alloc)
+    let factor = Factor::new(q, t);
+    entries
+        .iter()
+        .map(|x| rounded_of(&factor, q, t, *x))
+        .collect(alloc)
 }
