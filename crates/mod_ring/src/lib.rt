@@ -17,7 +17,9 @@ mod signs;
 pub use mod_inverse::inverse;
 pub use pairs::{Ciphertext, PublicKey};
 pub use poly::{Poly, Polys};
-pub use ring::{Ring, add_into, mul, neg_into, of_residues, of_signed, scale_into, sub_into, zero};
+pub use ring::{
+    Ring, add_into, add_into_row, mul, neg_into, of_residues, of_signed, scale_into, sub_into, zero,
+};
 pub use signs::{centre, residue_of};
 
 #[cfg(test)]

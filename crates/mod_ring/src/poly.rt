@@ -35,7 +35,7 @@ impl Poly {
 /// A list of polynomials, as the rows of a share.
 #[derive(Drop)]
 pub struct Polys {
-    items: Vec<Poly>,
+    pub(crate) items: Vec<Poly>,
 }
 
 impl Model for Polys {

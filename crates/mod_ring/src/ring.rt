@@ -1,8 +1,8 @@
-ghost use Rattle.std.specs.Prelude.{◌≡◌, ℕ, ◌<◌, length, map, replicate, IfOk};
+ghost use Rattle.std.specs.Prelude.{◌≡◌, ℕ, ◌<◌, [], length, map, replicate, IfOk, slice_index_or, slice_set};
 ghost use Rattle.ring_spec.specs.Ring.{IsPoly, residue, residues, signed, ring_sum, ring_difference, ring_negative, ring_multiple, ring_product};
 
 use crate::entries::{add_entries, neg_entries, scale_entries, sub_entries};
-use crate::poly::Poly;
+use crate::poly::{Poly, Polys};
 use crate::products::product;
 use crate::signs::residue_of;
 use param_set::Params;
@@ -74,6 +74,16 @@ pub fn add_into(ring: &Ring, acc: &mut Poly, f: &Poly)
     ensures fits { IsPoly ring.now.params.q ring.now.params.n acc.new }
 {
     add_entries(ring.params.q(), acc.coeffs.as_mut_slice(), f.coeffs());
+}
+
+/// Adds f to the polynomial at a place of a list; all others stay.
+pub fn add_into_row(ring: &Ring, rows: &mut Polys, place: usize, f: &Poly)
+    requires place { place < length rows.old }
+    requires left { IsPoly ring.now.params.q ring.now.params.n (slice_index_or rows.old place []) }
+    requires right { IsPoly ring.now.params.q ring.now.params.n f.now }
+    ensures { rows.new ≡ slice_set rows.old place (ring_sum ring.now.params.q ring.now.params.n (slice_index_or rows.old place []) f.now) }
+{
+    add_into(ring, &mut rows.items[place], f);
 }
 
 /// Subtracts f from acc.
