@@ -31,35 +31,35 @@ unfolding cipher_sum phase
 sum_carries q n t v w c d m l s h ht pm pl cm dl =
     let D = delta q t in let r = remainder q t in
     let S = coefficient s in let M = coefficient m in let L = coefficient l in
-    let C0 = coefficient c.c0 in let C1 = coefficient c.c1 in let D0 = coefficient d.c0 in let D1 = coefficient d.c1 in
+    let Left0 = coefficient c.c0 in let Left1 = coefficient c.c1 in let Right0 = coefficient d.c0 in let Right1 = coefficient d.c1 in
     let ml = ring_sum t n m l in let ML = coefficient ml in
     let n1 = ring_difference q n (phase q n s c) (ring_multiple q n D m) in
     let n2 = ring_difference q n (phase q n s d) (ring_multiple q n D l) in
     let c0 = ring_sum q n c.c0 d.c0 in let c1 = ring_sum q n c.c1 d.c1 in
     let f = ring_sum q n c0 (ring_product q n c1 s) in
     let all = ring_difference q n f (ring_multiple q n D ml) in
-    let A1 = minus (plus C0 (wrapped n C1 S)) (times (pos D) M) in
-    let A2 = minus (plus D0 (wrapped n D1 S)) (times (pos D) L) in
+    let A1 = minus (plus Left0 (wrapped n Left1 S)) (times (pos D) M) in
+    let A2 = minus (plus Right0 (wrapped n Right1 S)) (times (pos D) L) in
     let R = λ (i : ℕ). neg_ℤ (pos (r * ((get_or m i 0 + get_or l i 0) / t))) in
-    let X = minus (plus (plus C0 D0) (wrapped n (plus C1 D1) S)) (times (pos D) ML) in
+    let X = minus (plus (plus Left0 Right0) (wrapped n (plus Left1 Right1) S)) (times (pos D) ML) in
     let Z1 = centred q n1 in let Z2 = centred q n2 in
     let at_n1 : Agree q n A1 Z1 =
     agree_chain (agree_back (difference_agrees (phase q n s c) (ring_multiple q n D m) h
-    (sum_agrees c.c0 (ring_product q n c.c1 s) h (agree_self q n C0) (product_agrees c.c1 s h (agree_self q n C1) (agree_self q n S)))
+    (sum_agrees c.c0 (ring_product q n c.c1 s) h (agree_self q n Left0) (product_agrees c.c1 s h (agree_self q n Left1) (agree_self q n S)))
     (multiple_agrees D m h (agree_self q n M)))) (centred_agrees q n n1) in
     let at_n2 : Agree q n A2 Z2 =
     agree_chain (agree_back (difference_agrees (phase q n s d) (ring_multiple q n D l) h
-    (sum_agrees d.c0 (ring_product q n d.c1 s) h (agree_self q n D0) (product_agrees d.c1 s h (agree_self q n D1) (agree_self q n S)))
+    (sum_agrees d.c0 (ring_product q n d.c1 s) h (agree_self q n Right0) (product_agrees d.c1 s h (agree_self q n Right1) (agree_self q n S)))
     (multiple_agrees D l h (agree_self q n L)))) (centred_agrees q n n2) in
     let at_all : Agree q n (coefficient all) X =
     difference_agrees f (ring_multiple q n D ml) h
-    (sum_agrees c0 (ring_product q n c1 s) h (sum_agrees c.c0 d.c0 h (agree_self q n C0) (agree_self q n D0))
-    (product_agrees c1 s h (sum_agrees c.c1 d.c1 h (agree_self q n C1) (agree_self q n D1)) (agree_self q n S)))
+    (sum_agrees c0 (ring_product q n c1 s) h (sum_agrees c.c0 d.c0 h (agree_self q n Left0) (agree_self q n Right0))
+    (product_agrees c1 s h (sum_agrees c.c1 d.c1 h (agree_self q n Left1) (agree_self q n Right1)) (agree_self q n S)))
     (multiple_agrees D ml h (agree_self q n ML)) in
     let parts : Agree q n X (plus (plus A1 A2) R) = record {
       each = λ i p. record {
         k = pos ((get_or m i 0 + get_or l i 0) / t);
-        is = omega (arith, sums, wrapped_sum_left n C1 D1 S i, ap (λ (z : ℕ). D * z) (sum_at t n m l i p), carry q t (get_or m i 0) (get_or l i 0) ht);
+        is = omega (arith, sums, wrapped_sum_left n Left1 Right1 S i, ap (λ (z : ℕ). D * z) (sum_at t n m l i p), carry q t (get_or m i 0) (get_or l i 0) ht);
       };
     } in
     let within_r : IsWithin n r R =
