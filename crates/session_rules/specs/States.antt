@@ -17,6 +17,10 @@ pub record State : Type 0 where
   pub given : List (List Bool)
   pub circuits : List CircuitState
 
+-- the state of these parts
+abbrev pub seen : ℕ → List Instance → List (List Bool) → List CircuitState → State
+seen present is given circuits = record { present = present; instances = is; given = given; circuits = circuits }
+
 -- ---- circuits
 
 abbrev pub is_refused : CircuitState → Bool

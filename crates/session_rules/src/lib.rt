@@ -10,17 +10,24 @@
 
 mod call;
 mod fixed;
+mod given;
 mod issue;
 mod line;
 mod moves;
+mod owed;
 mod planning;
+mod ready;
 mod reply;
 mod state;
 
 pub use call::{Call, Entry};
 pub use fixed::{Fixed, Plan, PlanList};
+pub use given::Given;
+pub use issue::has_done;
 pub use line::Line;
 pub use moves::Move;
 pub use noise_ledger::Place;
+pub use planning::planned_moves;
+pub use ready::{is_ready, next_ready};
 pub use reply::Reply;
 pub use state::CircuitState;

@@ -93,7 +93,7 @@ fn instances_after(
 }
 
 /// The moves that the rules of issue make until neither applies, in their order; nothing is changed.
-pub fn moves(
+pub fn planned_moves(
     alloc: Global,
     fixed: &Fixed,
     needed: &[Signature],

@@ -4,7 +4,7 @@ use Rattle.std.specs.Prelude.{None, Some}
 use Rattle.std.proofs.lemmas.Grind.{common_steps}
 use Rattle.session_rules.specs.Issues.{next_move, most_moves, instances_after}
 use Rattle.session_rules.proofs.Planned.{Planned-ends, Planned-next, Planned-all}
-use Rattle.session_rules.proofs.planning.moves.Goals as goal
+use Rattle.session_rules.proofs.planning.planned_moves.Goals as goal
 
 pub returns-in-None : goal.returns-in-None
 unfolding most_moves

@@ -1,6 +1,6 @@
 use Rattle.std.proofs.Common.{length, ◌+◌}
 use Rattle.session_rules.proofs.Planned.{Planned}
-use Rattle.session_rules.proofs.planning.moves.Given as goal
+use Rattle.session_rules.proofs.planning.planned_moves.Given as goal
 
 abbrev pub invariant-steps : goal.invariant-steps
 invariant-steps l =
