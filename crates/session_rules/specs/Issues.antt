@@ -26,7 +26,8 @@ wants_key plan = is_admitted plan && not (nat_eq (length plan.owners) 0)
 abbrev pub wants_relin : Plan → Bool
 wants_relin plan = is_admitted plan && plan.product
 
--- the keys that admitted circuits need, in the order in which they are issued
+-- the keys that admitted circuits need, in the order in which they are issued; which rotations those
+-- are stands in the fixed data
 unfoldable pub keys : Fixed → List Signature
 keys f =
     cond (list_any wants_key f.plans) (Pk ∷ []) []
@@ -113,8 +114,8 @@ issued_in (suc n) f present is circuits = elim (next_move f present is circuits)
   | Some m ↦ issued_in n f present (instances_after is m) circuits
 ]
 
--- more steps than that there never are: one for each signature that is needed, and for the second
--- round two more where the first is given up
+-- as many steps as there can be, and more: one for each signature that is needed, and one that gives a
+-- first round up
 unfoldable pub most_moves : Fixed → ℕ
 most_moves f = length (keys f) + length f.plans + 2
 

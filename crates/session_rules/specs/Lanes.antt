@@ -141,7 +141,7 @@ unfoldable pub sent_by_all : Fixed → ℕ → Run → List ℕ → Run
 sent_by_all f who r [] = r
 sent_by_all f who r (p ∷ ps) = sent_by_all f who (sent f who p r) ps
 
--- work until no circuit is ready, at most n times
+-- work until no circuit is ready, at most n times with a job
 unfoldable pub worked_off : ℕ → Fixed → ℕ → Run → Run
 worked_off zero f who r = called f who r call.Take
 worked_off (suc n) f who r = elim (job (reply_of f who r call.Take)) [

@@ -3,3 +3,5 @@ pub mod Issues
 pub mod Steps
 pub mod Histories
 pub mod Lanes
+pub mod Fixing
+pub mod Followed

@@ -147,7 +147,7 @@ has_turn s g = has_done (Rot g) s.instances
 unfoldable pub has_keys : State → Plan → Bool
 has_keys s plan = (not plan.product || has_done Rlk2 s.instances) && list_all (has_turn s) plan.turns
 
--- a circuit that may be evaluated: nobody does, its inputs are given, and its keys are complete
+-- a circuit that may be evaluated: it is idle, its inputs are given, and its keys are complete
 unfoldable pub ready : Fixed → State → ℕ → Bool
 ready f s c =
     is_idle (circuit s.circuits c) && list_all is_given_input (slice_index_or s.given c []) && has_keys s (plan f c)

@@ -25,7 +25,11 @@ pub(crate) fn owner(plan: &Plan, k: u32) -> u32
 {
     let owners = plan.owners.as_slice();
     let place = k as usize;
-    if place < owners.len() { owners[place] } else { 0 }
+    if place < owners.len() {
+        owners[place]
+    } else {
+        0
+    }
 }
 
 /// Whether input k of circuit c is party p's and isn't given.

@@ -27,7 +27,7 @@ fn has_keys(instances: &[Instance], plan: &Plan) -> bool
     (!plan.product || has_done(Signature::Rlk2, instances)) && has_turns(instances, &plan.turns)
 }
 
-/// Whether a circuit may be evaluated: nobody does, its inputs are given, and its keys are complete.
+/// Whether a circuit may be evaluated: it is idle, its inputs are given, and its keys are complete.
 #[tactic(auto, unfolding(crate::specs::Steps::ready, crate::specs::Steps::has_keys))]
 pub fn is_ready(
     fixed: &Fixed,

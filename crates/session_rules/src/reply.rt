@@ -1,7 +1,8 @@
 use param_set::{Ids, Slots};
 use proto_names::{PartySet, Signature};
 
-/// What a call answers. Each reply that isn't the last of its kind changes nothing but the log.
+/// What a call answers. Joined, Left, Counted, Completed, Given, Job, Finished and Returned change the
+/// state; every other reply changes nothing but the log.
 #[derive(Drop)]
 pub enum Reply {
     /// The party is present from now on.
@@ -12,7 +13,8 @@ pub enum Reply {
     Already,
     /// The party, or the owner of the input, is absent.
     Absent,
-    /// The instances that lack the party's share, and its inputs that aren't given.
+    /// The opened instances that lack the party's share, and, once there is a public key, its inputs of
+    /// admitted circuits that aren't given.
     List { ids: Ids, inputs: Slots },
     /// The instance's signature, and who takes part.
     Brief { signature: Signature, set: PartySet },
