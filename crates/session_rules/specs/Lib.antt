@@ -5,3 +5,4 @@ pub mod Histories
 pub mod Lanes
 pub mod Fixing
 pub mod Followed
+pub mod Facts
