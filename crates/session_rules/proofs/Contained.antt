@@ -154,3 +154,17 @@ range_within a (suc n) k m = elim (contains_cases a (range_with_len (a + 1) n) k
   | inl same ↦ (omega arith, omega arith)
   | inr rest ↦ let c = range_within (a + 1) n k rest in (omega arith, omega arith)
 ]
+
+-- one that passes
+pub record Passing {X : Type 0} (test : X → Bool) (xs : List X) : Type 0 where
+  pub item : X
+  pub within : Contains xs item
+  pub passes : test item ≡ true
+
+passing_at : {X : Type 0} (test : X → Bool) (x : X) (xs : List X) → (list_any test xs ≡ true → Passing test xs) → (b : Bool) → test x ≡ b → (b || list_any test xs) ≡ true → Passing test (x ∷ xs)
+passing_at test x xs later true h e = record { item = x; within = contains_here x xs; passes = h }
+passing_at test x xs later false h e = let c = later e in record { item = c.item; within = contains_there x xs c.item c.within; passes = c.passes }
+
+pub any_true : {X : Type 0} (test : X → Bool) (xs : List X) → list_any test xs ≡ true → Passing test xs
+any_true test [] e = cc
+any_true test (x ∷ xs) e = passing_at test x xs (any_true test xs) (test x) refl e

@@ -1,0 +1,164 @@
+-- What a loss, a share and a given-up first round do to the facts about instances.
+use Rattle.std.proofs.Common.{◌≡◌, ◌≢◌, ◌∙◌, sym, ap, subst, refl, ℕ, zero, suc, ◌+◌, ◌-◌, ◌<◌, ◌≤◌, ◌^◌, Bool, true, false, not, nat_eq, ◌&&◌, ◌||◌, cond, ◌⊎◌, inl, inr, List, [], ◌∷◌, length, map, get_or, set, Contains, arith}
+use Rattle.std.specs.Prelude.{if◌then◌else◌}
+use Rattle.std.specs.List.{list_any}
+use Rattle.std.proofs.lemmas.Bool.{both_ways, cases_Bool, cases_eq, eqb-true, eqb-false, eq-eqb, ne_eqb, and_parts, and_from, or_cases, or_parts, or_left, or_from, false_from_ne_true}
+use Rattle.std.proofs.lemmas.List.{get_or-set_other}
+use Rattle.share_spec.specs.Sets.{has}
+use Rattle.proto_names.specs.Names.{same, is_void, is_opened}
+use Rattle.proto_names.specs.Groups.{with_party, without_party, number_outside}
+use Rattle.proto_names.specs.Instances.{lacks, missing, with_share, counted_at, after_share, given_up, after_void}
+use Rattle.proto_names.specs.declared.signature.Signature.{Signature}
+use Rattle.proto_names.specs.declared.signature.Signature.TheVariants.{Pk, Rlk1, Rlk2, Rot, Dec}
+use Rattle.proto_names.specs.declared.instance.Instance.{Instance}
+use Rattle.proto_names.specs.declared.instance.Stage.{Stage}
+use Rattle.proto_names.specs.declared.instance.Stage.TheVariants.{Opened, Complete, Void}
+use Rattle.session_rules.specs.declared.state.CircuitState.{CircuitState}
+use Rattle.session_rules.specs.declared.state.CircuitState.TheVariants.{Evaluated, Answered}
+use Rattle.session_rules.specs.declared.fixed.Fixed.{Fixed}
+use Rattle.session_rules.specs.States.{circuit, is_refused, has_live}
+use Rattle.session_rules.specs.Steps.{lacks_for, falls, fallen, after_loss, answered_by}
+use Rattle.session_rules.specs.Facts.{IsLive, IsSameLater, IsSound, Decrypts, HasFirst}
+use Rattle.session_rules.proofs.Contained.{any_true, any_from, any_none}
+use Rattle.session_rules.proofs.Marks.{IsDone, Lacks, lacks_is, lacks_from, one_number, same_is, none_lives, opened_lives, complete_lives, live_cases}
+use Rattle.session_rules.proofs.PartySets.{has_party, with_keeps, with_cases, with_small, without_keeps, nobody_outside}
+use Rattle.session_rules.proofs.Later.{void_later, share_later, where_so, same_reflexive, later_lives, StayAdmitted, circuits_reflexive, set_admitted, circuit_set}
+use Rattle.session_rules.proofs.Ordered.{Ordered, numbered_map, one_map, each_map, rounds_map}
+
+-- ---- a void one
+
+void_sound : (f : Fixed) (before now : ℕ) (a : Instance) (by : ℕ) → IsSound f before a → IsSound f now (record a { stage = Void by })
+void_sound f before now a by s = record {
+  set = s.set; parties = s.parties; sent = s.sent; senders = s.senders;
+  complete = λ e. cc;
+  opened = λ l e. cc;
+  awaited = λ e p h n. cc;
+}
+
+void_decrypts : (circuits : List CircuitState) (a : Instance) (by : ℕ) → Decrypts circuits (record a { stage = Void by })
+void_decrypts circuits a by = record { opened = λ c e o. cc; complete = λ c e o. cc }
+
+-- a fact of a changed one, by the test
+either_one : (P : Instance → Type 0) (b : Bool) (now a : Instance) → (b ≡ true → P now) → (b ≡ false → P a) → P (if b then now else a)
+either_one P true now a yes_ no_ = yes_ refl
+either_one P false now a yes_ no_ = no_ refl
+
+-- ---- rule 1: a complete first round is given up
+
+void_at_most : (is : List Instance) (i a : Instance) (by : ℕ) → (f : Fixed) (present : ℕ) (circuits : List CircuitState) → Ordered f present circuits is
+    → Contains is i → IsDone Rlk1 i → Contains is a → IsSameLater a (given_up i.id by a)
+void_at_most is i a by f present circuits o within done m =
+    where_so a (record a { stage = Void by }) (nat_eq a.id i.id)
+    (λ e. void_later a by (inr (subst (λ (z : Instance). IsDone Rlk1 z) (one_number is i a o.numbered within m (sym (eqb-true a.id i.id e))) done)))
+
+pub give_up_later : (is : List Instance) (i : Instance) (by : ℕ) → (f : Fixed) (present : ℕ) (circuits : List CircuitState) → Ordered f present circuits is
+    → Contains is i → IsDone Rlk1 i → (a : Instance) → Contains is a → IsSameLater a (given_up i.id by a)
+give_up_later is i by f present circuits o within done a m = void_at_most is i a by f present circuits o within done m
+
+pub give_up_ordered : (is : List Instance) (i : Instance) (by : ℕ) → (f : Fixed) (present : ℕ) (circuits : List CircuitState) → Ordered f present circuits is
+    → Contains is i → IsDone Rlk1 i → has_live Rlk2 is ≡ false → Ordered f present circuits (after_void i.id by is)
+unfolding after_void
+give_up_ordered is i by f present circuits o within done none =
+    let g = given_up i.id by in
+    let later = give_up_later is i by f present circuits o within done in
+    record {
+      numbered = numbered_map g is later o.numbered;
+      one = one_map g is later o.one;
+      sound = each_map g is (λ a. IsSound f present a) (λ a. IsSound f present a)
+        (λ a m s. either_one (λ b. IsSound f present b) (nat_eq a.id i.id) (record a { stage = Void by }) a (λ e. void_sound f present present a by s) (λ e. s)) o.sound;
+      decrypts = each_map g is (λ a. Decrypts circuits a) (λ a. Decrypts circuits a)
+        (λ a m s. either_one (λ b. Decrypts circuits b) (nat_eq a.id i.id) (record a { stage = Void by }) a (λ e. void_decrypts circuits a by) (λ e. s)) o.decrypts;
+      rounds = rounds_map g is later
+        (λ a first m second alive n d e. absurd (none_lives Rlk2 is a none m second (later_lives a (g a) (later a m) alive))) o.rounds;
+    }
+
+-- ---- a party is lost
+
+module _ (f : Fixed) (present : ℕ) (circuits : List CircuitState) (is : List Instance) (o : Ordered f present circuits is) (p : ℕ) where
+
+  -- the opened second round of a first one, which lacks the share of the lost party
+  record Waits (first : Instance) : Type 0 where
+    second : Instance
+    within : Contains is second
+    signature : second.signature ≡ Rlk2
+    round1 : second.round1 ≡ first.id
+    waits : Lacks p second
+
+  waits_is : (first : Instance) → list_any (lacks_for p first.id) is ≡ true → Waits first
+  waits_is first e =
+      let x = any_true (lacks_for p first.id) is e in
+      let both = and_parts (same x.item.signature Rlk2 && nat_eq x.item.round1 first.id) (lacks p x.item) x.passes in
+      let two = and_parts (same x.item.signature Rlk2) (nat_eq x.item.round1 first.id) both.0 in
+      record { second = x.item; within = x.within; signature = same_is x.item.signature Rlk2 two.0; round1 = eqb-true x.item.round1 first.id two.1; waits = lacks_is p x.item both.1 }
+
+  -- what falls was opened, or a complete first round
+  falls_is : (a : Instance) → Contains is a → falls p is a ≡ true → (a.stage ≡ Opened) ⊎ IsDone Rlk1 a
+  unfolding falls
+  falls_is a m e = elim (or_cases (lacks p a) (list_any (lacks_for p a.id) is) e) [
+    | inl lost ↦ inl (lacks_is p a lost).opened
+    | inr second ↦
+        let w = waits_is a second in
+        let h = o.rounds w.second w.within w.signature (opened_lives w.second w.waits.opened) in
+        let same_one : h.first ≡ a = one_number is h.first a o.numbered h.issued m (h.id ∙ w.round1) in
+        inr (subst (λ (z : Instance). IsDone Rlk1 z) same_one (record { signature = h.signature; complete = h.complete }))
+  ]
+
+  pub loss_later : (a : Instance) → Contains is a → IsSameLater a (fallen p is a)
+  loss_later a m = where_so a (record a { stage = Void p }) (falls p is a) (λ e. void_later a p (falls_is a m e))
+
+  -- one that lives on did not fall
+  stands : (a : Instance) → IsLive (fallen p is a) → falls p is a ≡ false
+  stands a alive = at (falls p is a) refl alive
+    where
+      at : (b : Bool) → falls p is a ≡ b → IsLive (if b then record a { stage = Void p } else a) → falls p is a ≡ false
+      at true e l = absurd (both_ways true l refl)
+      at false e l = e
+
+  falls_by : (a : Instance) → Lacks p a → falls p is a ≡ true
+  unfolding falls
+  falls_by a l = or_left (lacks p a) (list_any (lacks_for p a.id) is) (lacks_from p a l)
+
+  -- a complete first round whose second one lives on
+  first_stands : (a first : Instance) → Contains is a → a.signature ≡ Rlk2 → IsLive (fallen p is a) → Contains is first → IsDone Rlk1 first → first.id ≡ a.round1 → falls p is first ≡ false
+  unfolding falls
+  first_stands a first m second alive n done e =
+      or_from (lacks p first) (list_any (lacks_for p first.id) is)
+      (false_from_ne_true (lacks p first) (λ l. let x = (lacks_is p first l).opened in let y = done.complete in cc))
+      (false_from_ne_true (list_any (lacks_for p first.id) is) (λ l.
+        let w = waits_is first l in
+        let living : IsLive a = later_lives a (fallen p is a) (loss_later a m) alive in
+        let ids : w.second.id ≡ a.id = o.one w.second a w.within m (w.signature ∙ sym second) (opened_lives w.second w.waits.opened) living in
+        let it : w.second ≡ a = one_number is w.second a o.numbered w.within m ids in
+        both_ways (falls p is a) (stands a alive) (falls_by a (subst (λ (z : Instance). Lacks p z) it w.waits))))
+
+  first_complete : (a first : Instance) → Contains is a → a.signature ≡ Rlk2 → IsLive (fallen p is a) → Contains is first → IsDone Rlk1 first → first.id ≡ a.round1 → (fallen p is first).stage ≡ Complete
+  first_complete a first m second alive n done e = rw (first_stands a first m second alive n done e) done.complete
+
+  loss_sound : (a : Instance) → Contains is a → 1 ≤ p → p ≤ 32 → IsSound f present a → IsSound f (without_party present p) (fallen p is a)
+  loss_sound a m first last s = either_one (λ b. IsSound f (without_party present p) b) (falls p is a) (record a { stage = Void p }) a
+      (λ e. void_sound f present (without_party present p) a p s)
+      (λ e. record {
+        set = s.set; parties = s.parties; sent = s.sent; senders = s.senders; complete = s.complete; opened = s.opened;
+        awaited = λ opened q member unsent. without_keeps present p q first last
+          (λ same_party. both_ways (falls p is a) e (falls_by a (record {
+            opened = opened;
+            member = subst (λ (z : ℕ). has a.set.bits z ≡ true) same_party member;
+            unsent = subst (λ (z : ℕ). has a.sent.bits z ≡ false) same_party unsent;
+          })))
+          (s.awaited opened q member unsent);
+      })
+
+  loss_decrypts : (a : Instance) → Decrypts circuits a → Decrypts circuits (fallen p is a)
+  loss_decrypts a s = either_one (λ b. Decrypts circuits b) (falls p is a) (record a { stage = Void p }) a (λ e. void_decrypts circuits a p) (λ e. s)
+
+  pub loss_ordered : 1 ≤ p → p ≤ 32 → Ordered f (without_party present p) circuits (after_loss p is)
+  unfolding after_loss
+  loss_ordered first last =
+      let g = fallen p is in
+      record {
+        numbered = numbered_map g is loss_later o.numbered;
+        one = one_map g is loss_later o.one;
+        sound = each_map g is (λ a. IsSound f present a) (λ a. IsSound f (without_party present p) a) (λ a m s. loss_sound a m first last s) o.sound;
+        decrypts = each_map g is (λ a. Decrypts circuits a) (λ a. Decrypts circuits a) (λ a m s. loss_decrypts a s) o.decrypts;
+        rounds = rounds_map g is loss_later first_complete o.rounds;
+      }
