@@ -1,7 +1,7 @@
 -- What a share that is counted does to the facts about instances and circuits.
 use Rattle.std.proofs.Common.{◌≡◌, ◌≢◌, ◌∙◌, sym, ap, subst, refl, ℕ, zero, suc, ◌+◌, ◌-◌, ◌<◌, ◌≤◌, ◌^◌, Bool, true, false, not, nat_eq, cond, ◌⊎◌, inl, inr, List, [], ◌∷◌, length, map, get_or, set, Contains, arith, length-set}
 use Rattle.std.specs.Prelude.{if◌then◌else◌}
-use Rattle.std.proofs.lemmas.Bool.{both_ways, cases_Bool, cases_eq, cases_lt, eqb-true, eqb-false, false_from_ne_true}
+use Rattle.std.proofs.lemmas.Bool.{both_ways, cases_Bool, cases_eq, cases_lt, eqb-true, eqb-false, eq-eqb, false_from_ne_true}
 use Rattle.std.proofs.lemmas.List.{get_or-set_other, get_or-set_same, get_or_past}
 use Rattle.share_spec.specs.Sets.{has}
 use Rattle.proto_names.specs.Names.{is_void}
@@ -130,5 +130,64 @@ module _ (f : Fixed) (present : ℕ) (circuits : List CircuitState) (is : List I
       more n e = by_one n (nat_eq n 0) refl e
 
   -- the circuits then
-  pub counted_circuits : List CircuitState
+  unfoldable pub counted_circuits : List CircuitState
   counted_circuits = cond (nat_eq (missing p i) 0) (answered_by i.signature circuits) circuits
+
+  last_decrypts : nat_eq (missing p i) 0 ≡ true → (a : Instance) → Contains is a → Decrypts circuits a → Decrypts (answered_by i.signature circuits) (counted_at i.id p a)
+  unfolding with_share
+  last_decrypts last a m d = by_test (λ z. Decrypts (answered_by i.signature circuits) z) a m
+      (record {
+        opened = λ c e (open_still : (if nat_eq (missing p i) 0 then Complete else Opened) ≡ Opened). let closed : (if nat_eq (missing p i) 0 then Complete else Opened) ≡ Complete = rw last refl in cc;
+        complete = λ c e done. answered_its i.signature circuits c e;
+      })
+      (λ differs. record {
+        opened = λ c e waits. elim (decides_dec i.signature c) [
+          | inl its ↦
+              let ids : a.id ≡ i.id = o.one a i m within (e ∙ sym its) (opened_lives a waits) (opened_lives i opened) in
+              absurd (both_ways (nat_eq a.id i.id) differs (eq-eqb a.id i.id ids))
+          | inr other ↦ answered_other i.signature circuits c other ∙ d.opened c e waits
+        ];
+        complete = λ c e done. answered_kept i.signature circuits c (d.complete c e done);
+      })
+
+  more_decrypts : nat_eq (missing p i) 0 ≡ false → (a : Instance) → Contains is a → Decrypts circuits a → Decrypts circuits (counted_at i.id p a)
+  unfolding with_share
+  more_decrypts more a m d = by_test (λ z. Decrypts circuits z) a m
+      (record {
+        opened = λ c e waits. (o.decrypts i within).opened c e opened;
+        complete = λ c e (closed : (if nat_eq (missing p i) 0 then Complete else Opened) ≡ Complete). let open_still : (if nat_eq (missing p i) 0 then Complete else Opened) ≡ Opened = rw more refl in cc;
+      })
+      (λ differs. d)
+
+  share_decrypts : (a : Instance) → Contains is a → Decrypts circuits a → Decrypts counted_circuits (counted_at i.id p a)
+  unfolding counted_circuits
+  share_decrypts a m d = elim (cases_Bool (nat_eq (missing p i) 0)) [
+    | inl last ↦ rw last (last_decrypts last a m d)
+    | inr more ↦ rw more (more_decrypts more a m d)
+  ]
+
+  share_first : (a first : Instance) → Contains is a → a.signature ≡ Rlk2 → IsLive (counted_at i.id p a) → Contains is first → IsDone Rlk1 first → first.id ≡ a.round1 → (counted_at i.id p first).stage ≡ Complete
+  share_first a first m second alive n done e = at (nat_eq first.id i.id) refl
+    where
+      at : (b : Bool) → nat_eq first.id i.id ≡ b → (if b then with_share p first else first).stage ≡ Complete
+      at true e = let x = done.complete in let y : first.stage ≡ Opened = subst (λ (z : Instance). z.stage ≡ Opened) (itself first n e) opened in cc
+      at false e = done.complete
+
+  pub share_ordered : Ordered f present counted_circuits (after_share i.id p is)
+  unfolding after_share
+  share_ordered =
+      let g = counted_at i.id p in
+      record {
+        numbered = numbered_map g is share_all_later o.numbered;
+        one = one_map g is share_all_later o.one;
+        sound = each_map g is (λ a. IsSound f present a) (λ a. IsSound f present a) (λ a m s. by_test (λ z. IsSound f present z) a m (share_sound (o.sound i within)) (λ _. s)) o.sound;
+        decrypts = each_map g is (λ a. Decrypts circuits a) (λ a. Decrypts counted_circuits a) share_decrypts o.decrypts;
+        rounds = rounds_map g is share_all_later share_first o.rounds;
+      }
+
+  pub share_admitted : StayAdmitted circuits counted_circuits
+  unfolding counted_circuits
+  share_admitted = elim (cases_Bool (nat_eq (missing p i) 0)) [
+    | inl last ↦ rw last (answered_admitted i.signature circuits (λ c e. rw ((o.decrypts i within).opened c e opened) refl))
+    | inr more ↦ rw more (circuits_reflexive circuits)
+  ]
