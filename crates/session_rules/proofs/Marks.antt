@@ -71,6 +71,10 @@ pub lives_from : (σ : Signature) (i : Instance) → i.signature ≡ σ → IsLi
 unfolding lives
 lives_from σ i e h = and_from (same i.signature σ) (not (is_void i.stage)) (rw e (same_self σ)) (not_from_false (is_void i.stage) h)
 
+pub lives_is : (σ : Signature) (i : Instance) → lives σ i ≡ true → (i.signature ≡ σ) × IsLive i
+unfolding lives
+lives_is σ i h = let both = and_parts (same i.signature σ) (not (is_void i.stage)) h in (same_is i.signature σ both.0, not-true (is_void i.stage) both.1)
+
 -- a complete instance of a signature
 pub record IsDone (σ : Signature) (i : Instance) : Type 0 where
   pub signature : i.signature ≡ σ
