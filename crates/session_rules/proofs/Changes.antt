@@ -1,7 +1,7 @@
 -- What changes in a state, one change after the other: whatever each of them keeps, a call keeps.
-use Rattle.std.proofs.Common.{◌≡◌, ◌∙◌, sym, ap, refl, ℕ, zero, suc, ◌≤◌, Bool, true, false, not, nat_eq, cond, ◌||◌, List, length, [], ◌∷◌, find, slice_index_or, Option, Some, None, true≢false}
+use Rattle.std.proofs.Common.{◌≡◌, ◌∙◌, sym, ap, refl, ℕ, zero, suc, ◌≤◌, Bool, true, false, not, nat_eq, cond, ◌||◌, ◌⊎◌, inl, inr, List, length, [], ◌∷◌, find, slice_index_or, Option, Some, None, true≢false}
 use Rattle.std.specs.List.{range_with_len}
-use Rattle.std.specs.Prelude.{if◌then◌else◌}
+use Rattle.std.specs.Prelude.{if◌then◌else◌, ⊤}
 use Rattle.std.proofs.lemmas.Bool.{not-false, and_parts}
 use Rattle.share_spec.specs.Sets.{has}
 use Rattle.proto_names.specs.Names.{rows_of, is_void}
@@ -13,7 +13,6 @@ use Rattle.proto_names.specs.declared.instance.Stage.{Stage}
 use Rattle.proto_names.specs.declared.instance.Stage.TheVariants.{Opened, Complete, Void}
 use Rattle.session_rules.specs.declared.call.Call.{Call}
 use Rattle.session_rules.specs.declared.call.Call.TheVariants as call
-use Rattle.session_rules.specs.declared.call.Entry.{Entry}
 use Rattle.session_rules.specs.declared.reply.Reply.{Reply}
 use Rattle.session_rules.specs.declared.reply.Reply.TheVariants as reply
 use Rattle.session_rules.specs.declared.state.CircuitState.{CircuitState}
@@ -23,16 +22,6 @@ use Rattle.session_rules.specs.declared.fixed.Fixed.{Fixed}
 use Rattle.session_rules.specs.States.{State, circuit, is_idle, is_taken_by, is_refused, is_given, plan, has_done}
 use Rattle.session_rules.specs.Issues.{next_move, instances_after, issued_in, issue, most_moves}
 use Rattle.session_rules.specs.Steps.{join, lose, after_loss, pending, brief, deliver, by_stage, accepted, counted, answered_by, input, is_input, with_input, take, next_ready, ready, with_circuit, finish, give_back, step}
-use Rattle.session_rules.specs.Histories.{after}
-use Rattle.session_rules.specs.Facts.{NamesParty, NameParties}
-
--- whether a circuit is idle or taken
-abbrev pub is_open : CircuitState → Bool
-is_open (Refused place bound limit) = false
-is_open Idle = true
-is_open (Taken caller) = true
-is_open Evaluated = false
-is_open Answered = false
 
 -- the instances and circuits once a share is counted
 abbrev pub after_count : Instance → ℕ → State → State
@@ -41,28 +30,18 @@ after_count i p s = record s {
   circuits = cond (nat_eq (missing p i) 0) (answered_by i.signature s.circuits) s.circuits;
 }
 
--- t is s after one change
-pub data Change (f : Fixed) (s t : State) : Type 0 where
-  joins : (p : ℕ) → p ≤ 32 → t ≡ record s { present = with_party s.present p } → Change f s t
-  loses : (p : ℕ) → has s.present p ≡ true → t ≡ record s { present = without_party s.present p; instances = after_loss p s.instances } → Change f s t
-  counts : (id p : ℕ) (i : Instance) → instance s.instances id ≡ Some i → has i.set.bits p ≡ true → is_void i.stage ≡ false → has i.sent.bits p ≡ false → t ≡ after_count i p s → Change f s t
-  gives : (c k : ℕ) → t ≡ record s { given = with_input s.given c k } → Change f s t
-  turns : (c : ℕ) (now : CircuitState) → is_open (circuit s.circuits c) ≡ true → is_refused now ≡ false → t ≡ with_circuit s c now → Change f s t
-  moves : (m : Move) → next_move f s.present s.instances s.circuits ≡ Some m → t ≡ record s { instances = instances_after s.instances m } → Change f s t
+-- who changes a circuit: it is idle, or the caller has taken it
+abbrev pub MayTurn : ℕ → CircuitState → Type 0
+MayTurn caller now = (is_idle now ≡ true) ⊎ (is_taken_by caller now ≡ true)
 
-open_from_idle : (now : CircuitState) → is_idle now ≡ true → is_open now ≡ true
-open_from_idle (Refused place bound limit) e = e
-open_from_idle Idle e = e
-open_from_idle (Taken caller) e = refl
-open_from_idle Evaluated e = e
-open_from_idle Answered e = e
-
-open_from_taken : (who : ℕ) (now : CircuitState) → is_taken_by who now ≡ true → is_open now ≡ true
-open_from_taken who (Refused place bound limit) e = e
-open_from_taken who Idle e = refl
-open_from_taken who (Taken caller) e = refl
-open_from_taken who Evaluated e = e
-open_from_taken who Answered e = e
+-- t is s after one change by a caller; who may join is said by `may`
+pub data Change (may : ℕ → Type 0) (caller : ℕ) (f : Fixed) (s t : State) : Type 0 where
+  joins : (p : ℕ) → may p → t ≡ record s { present = with_party s.present p } → Change may caller f s t
+  loses : (p : ℕ) → has s.present p ≡ true → t ≡ record s { present = without_party s.present p; instances = after_loss p s.instances } → Change may caller f s t
+  counts : (id p : ℕ) (i : Instance) → instance s.instances id ≡ Some i → has i.set.bits p ≡ true → is_void i.stage ≡ false → has i.sent.bits p ≡ false → t ≡ after_count i p s → Change may caller f s t
+  gives : (c k : ℕ) → t ≡ record s { given = with_input s.given c k } → Change may caller f s t
+  turns : (c : ℕ) (now : CircuitState) → MayTurn caller (circuit s.circuits c) → is_refused now ≡ false → t ≡ with_circuit s c now → Change may caller f s t
+  moves : (m : Move) → next_move f s.present s.instances s.circuits ≡ Some m → t ≡ record s { instances = instances_after s.instances m } → Change may caller f s t
 
 found_here : {X : Type 0} (test : X → Bool) (xs : List X) (y x : X) → (find test xs ≡ Some x → test x ≡ true)
     → (b : Bool) → test y ≡ b → cond b (Some y) (find test xs) ≡ Some x → test x ≡ true
@@ -78,10 +57,15 @@ either : (G : State → Type 0) (b : Bool) (x y : Reply × State) → (b ≡ tru
 either G true x y h k = h refl
 either G false x y h k = k refl
 
+-- a call by which only those join who may
+abbrev pub Joins : (ℕ → Type 0) → Call → Type 0
+Joins may (call.Join p) = may p
+Joins may _ = ⊤
+
 -- what each change keeps, all changes keep
-module _ (f : Fixed) (P : State → Type 0) (R : State → State → Type 0)
+module _ (f : Fixed) (may : ℕ → Type 0) (caller : ℕ) (P : State → Type 0) (R : State → State → Type 0)
   (reflexive : (s : State) → R s s) (transitive : (s t u : State) → R s t → R t u → R s u)
-  (one : (s t : State) → P s → Change f s t → P t × R s t) where
+  (one : (s t : State) → P s → Change may caller f s t → P t × R s t) where
 
   abbrev Goes : State → State → Type 0
   Goes s t = P t × R s t
@@ -112,10 +96,10 @@ module _ (f : Fixed) (P : State → Type 0) (R : State → State → Type 0)
   unfolding issue
   issue_goes s h = issuing (most_moves f) s h
 
-  changed : (s t : State) → P s → Change f s t → Goes s (issue f t)
+  changed : (s t : State) → P s → Change may caller f s t → Goes s (issue f t)
   changed s t h c = onward s t (issue f t) (one s t h c) (issue_goes t)
 
-  join_goes : (s : State) (p : ℕ) → p ≤ 32 → P s → Goes s (join f s p).1
+  join_goes : (s : State) (p : ℕ) → may p → P s → Goes s (join f s p).1
   unfolding join
   join_goes s p small h =
       either (Goes s) (has s.present p) (reply.Already, s) (reply.Joined, issue f (record s { present = with_party s.present p }))
@@ -132,7 +116,7 @@ module _ (f : Fixed) (P : State → Type 0) (R : State → State → Type 0)
   counted_goes s id p i e member alive lacks h =
       let next : State = record s { instances = after_share i.id p s.instances } in
       let whole : State = record next { circuits = answered_by i.signature s.circuits } in
-      let at : (t : State) → t ≡ after_count i p s → Change f s t = λ t same. counts id p i e member alive lacks same in
+      let at : (t : State) → t ≡ after_count i p s → Change may caller f s t = λ t same. counts id p i e member alive lacks same in
       either (Goes s) (nat_eq (missing p i) 0) (reply.Completed, issue f whole) (reply.Counted (missing p i), next)
       (λ (last : nat_eq (missing p i) 0 ≡ true). changed s whole h (at whole (rw last refl)))
       (λ (more : nat_eq (missing p i) 0 ≡ false). one s next h (at next (rw more refl)))
@@ -173,48 +157,42 @@ module _ (f : Fixed) (P : State → Type 0) (R : State → State → Type 0)
       (λ _. either (Goes s) (is_given s c k) (reply.Repeat, s) (reply.Given, record s { given = with_input s.given c k }) (λ _. stays s h)
       (λ _. one s _ h (gives c k refl)))))
 
-  ready_goes : (s : State) (caller : ℕ) (o : Option ℕ) → next_ready f s ≡ o → P s → Goes s (elim o as (λ x. Reply × State) [
+  ready_goes : (s : State) (o : Option ℕ) → next_ready f s ≡ o → P s → Goes s (elim o as (λ x. Reply × State) [
       | None ↦ (reply.Nothing, s)
       | Some c ↦ (reply.Job c, with_circuit s c (Taken caller))
   ]).1
   unfolding next_ready ready
-  ready_goes s caller None e h = stays s h
-  ready_goes s caller (Some c) e h =
+  ready_goes s None e h = stays s h
+  ready_goes s (Some c) e h =
       let passes : ready f s c ≡ true = find_passes (ready f s) (range_with_len 0 (length f.plans)) c e in
       let idle : is_idle (circuit s.circuits c) ≡ true = (and_parts _ _ (and_parts _ _ passes).0).0 in
-      one s _ h (turns c (Taken caller) (open_from_idle _ idle) refl refl)
+      one s _ h (turns c (Taken caller) (inl idle) refl refl)
 
-  take_goes : (s : State) (caller : ℕ) → P s → Goes s (take f s caller).1
+  take_goes : (s : State) → P s → Goes s (take f s caller).1
   unfolding take
-  take_goes s caller h = ready_goes s caller (next_ready f s) refl h
+  take_goes s h = ready_goes s (next_ready f s) refl h
 
-  finish_goes : (s : State) (caller c : ℕ) → P s → Goes s (finish f s caller c).1
+  finish_goes : (s : State) (c : ℕ) → P s → Goes s (finish f s caller c).1
   unfolding finish
-  finish_goes s caller c h =
+  finish_goes s c h =
       either (Goes s) (is_taken_by caller (circuit s.circuits c)) (reply.Finished, issue f (with_circuit s c Evaluated)) (reply.NotTaken, s)
-      (λ e. changed s _ h (turns c Evaluated (open_from_taken caller _ e) refl refl)) (λ _. stays s h)
+      (λ e. changed s _ h (turns c Evaluated (inr e) refl refl)) (λ _. stays s h)
 
-  give_back_goes : (s : State) (caller c : ℕ) → P s → Goes s (give_back s caller c).1
+  give_back_goes : (s : State) (c : ℕ) → P s → Goes s (give_back s caller c).1
   unfolding give_back
-  give_back_goes s caller c h =
+  give_back_goes s c h =
       either (Goes s) (is_taken_by caller (circuit s.circuits c)) (reply.Returned, with_circuit s c Idle) (reply.NotTaken, s)
-      (λ e. one s _ h (turns c Idle (open_from_taken caller _ e) refl refl)) (λ _. stays s h)
+      (λ e. one s _ h (turns c Idle (inr e) refl refl)) (λ _. stays s h)
 
-  -- any call of any caller
-  pub step_goes : (s : State) (caller : ℕ) (c : Call) → NamesParty c → P s → Goes s (step f s caller c).1
+  -- any call of the caller
+  pub step_goes : (s : State) (c : Call) → Joins may c → P s → Goes s (step f s caller c).1
   unfolding step
-  step_goes s caller (call.Join p) n h = join_goes s p n.last h
-  step_goes s caller (call.Lose p) n h = lose_goes s p h
-  step_goes s caller (call.Pending p) n h = stays s h
-  step_goes s caller (call.Brief id) n h = stays s h
-  step_goes s caller (call.Deliver id p rows) n h = deliver_goes s id p rows h
-  step_goes s caller (call.Input c k) n h = input_goes s c k h
-  step_goes s caller call.Take n h = take_goes s caller h
-  step_goes s caller (call.Finish c) n h = finish_goes s caller c h
-  step_goes s caller (call.GiveBack c) n h = give_back_goes s caller c h
-
-  -- any list of calls
-  pub after_goes : (s : State) (es : List Entry) → NameParties es → P s → Goes s (after f s es)
-  unfolding after
-  after_goes s [] n h = stays s h
-  after_goes s (e ∷ es) n h = onward s (step f s e.caller e.call).1 (after f (step f s e.caller e.call).1 es) (step_goes s e.caller e.call n.0 h) (after_goes (step f s e.caller e.call).1 es n.1)
+  step_goes s (call.Join p) n h = join_goes s p n h
+  step_goes s (call.Lose p) n h = lose_goes s p h
+  step_goes s (call.Pending p) n h = stays s h
+  step_goes s (call.Brief id) n h = stays s h
+  step_goes s (call.Deliver id p rows) n h = deliver_goes s id p rows h
+  step_goes s (call.Input c k) n h = input_goes s c k h
+  step_goes s call.Take n h = take_goes s h
+  step_goes s (call.Finish c) n h = finish_goes s c h
+  step_goes s (call.GiveBack c) n h = give_back_goes s c h

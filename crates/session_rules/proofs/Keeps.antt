@@ -1,5 +1,6 @@
 -- Each change keeps what holds, and changes nothing that never changes.
 use Rattle.std.proofs.Common.{◌≡◌, ◌≢◌, ◌∙◌, sym, ap, subst, refl, ℕ, zero, suc, ◌+◌, ◌<◌, ◌≤◌, ◌^◌, Bool, true, false, ◌⊎◌, inl, inr, List, [], ◌∷◌, length, map, get_or, set, Contains, Option, Some, None, arith, length-set}
+use Rattle.std.specs.Prelude.{⊤}
 use Rattle.std.proofs.lemmas.Bool.{both_ways, cases_eq}
 use Rattle.std.proofs.lemmas.List.{get_or-set_other, length-map}
 use Rattle.share_spec.specs.Sets.{has, count}
@@ -12,6 +13,7 @@ use Rattle.proto_names.specs.declared.sets.PartySet.{PartySet}
 use Rattle.proto_names.specs.declared.instance.Instance.{Instance}
 use Rattle.proto_names.specs.declared.instance.Stage.TheVariants.{Opened, Complete}
 use Rattle.session_rules.specs.declared.call.Call.{Call}
+use Rattle.session_rules.specs.declared.call.Call.TheVariants as call
 use Rattle.session_rules.specs.declared.call.Entry.{Entry}
 use Rattle.session_rules.specs.declared.state.CircuitState.{CircuitState}
 use Rattle.session_rules.specs.declared.state.CircuitState.TheVariants.{Refused, Idle, Taken, Evaluated, Answered}
@@ -22,11 +24,11 @@ use Rattle.session_rules.specs.States.{State, circuit, is_refused, has_live, ope
 use Rattle.session_rules.specs.Issues.{next_move, instances_after, least_present}
 use Rattle.session_rules.specs.Steps.{after_loss, with_input, with_circuit, answered_by, step}
 use Rattle.session_rules.specs.Histories.{after, state_after}
-use Rattle.session_rules.specs.Facts.{IsParty, NamesParty, NameParties, IsLive, IsSound, Decrypts, HasFirst, Kept, IsLater}
-use Rattle.session_rules.proofs.Changes.{Change, joins, loses, counts, gives, turns, moves, is_open, after_count, step_goes, after_goes}
+use Rattle.session_rules.specs.Facts.{is_settled, IsLive, IsSound, Decrypts, HasFirst, Kept, IsLater}
+use Rattle.session_rules.proofs.Changes.{Change, joins, loses, counts, gives, turns, moves, MayTurn, Joins, after_count, step_goes}
 use Rattle.session_rules.proofs.Contained.{contains_nil}
 use Rattle.session_rules.proofs.Marks.{IsDone, instance_within}
-use Rattle.session_rules.proofs.PartySets.{has_party, with_keeps, with_small, without_small, none_outside, least_is, least_within, least_count}
+use Rattle.session_rules.proofs.PartySets.{has_party, with_keeps, none_outside, least_is, least_within, least_count}
 use Rattle.session_rules.proofs.MoveKinds.{MoveIs, gives_up, second, other, move_is, IsNeeded}
 use Rattle.session_rules.proofs.Needs.{needed_evaluated}
 use Rattle.session_rules.proofs.Later.{AreLater, all_reflexive, map_later, push_later, StayAdmitted, circuits_reflexive, set_admitted, given_stays, state_later, later_reflexive, later_transitive}
@@ -46,10 +48,10 @@ joined_sound f present p i s = record {
   awaited = λ e q h n. with_keeps present p q (s.awaited e q h n);
 }
 
-join_next : (f : Fixed) (s : State) (p : ℕ) → p ≤ 32 → Kept f s → Next f s (record s { present = with_party s.present p })
-join_next f s p last k =
+join_next : (f : Fixed) (s : State) (p : ℕ) → Kept f s → Next f s (record s { present = with_party s.present p })
+join_next f s p k =
     let t : State = record s { present = with_party s.present p } in
-    (kept_by f t (with_small s.present p k.present last) k.circuits k.given
+    (kept_by f t k.circuits k.given
     (record { numbered = k.numbered; one = k.one; sound = λ i m. joined_sound f s.present p i (k.sound i m); decrypts = k.decrypts; rounds = k.rounds }),
     state_later s t (all_reflexive s.instances) (λ c k e. e) (circuits_reflexive s.circuits))
 
@@ -59,7 +61,7 @@ lose_next f s p h k =
     let t : State = record s { present = without_party s.present p; instances = after_loss p s.instances } in
     let range = has_party s.present p h in
     let o = ordered_in f s k in
-    (kept_by f t (without_small s.present p k.present) k.circuits k.given (loss_ordered f s.present s.circuits s.instances o p range.0 range.1),
+    (kept_by f t k.circuits k.given (loss_ordered f s.present s.circuits s.instances o p range.0 range.1),
     state_later s t (map_later _ s.instances (loss_later f s.present s.circuits s.instances o p)) (λ c k e. e) (circuits_reflexive s.circuits))
 
 -- ---- a share is counted
@@ -72,7 +74,7 @@ count_next f s id p i found member alive unsent k =
     let m = instance_within s.instances id i found in
     let opened = lacking_opened f s.present i p (k.sound i m) alive member unsent in
     let admitted = share_admitted f s.present s.circuits s.instances o i p m opened member unsent in
-    (kept_by f t k.present (admitted.length ∙ k.circuits) k.given (share_ordered f s.present s.circuits s.instances o i p m opened member unsent),
+    (kept_by f t (admitted.length ∙ k.circuits) k.given (share_ordered f s.present s.circuits s.instances o i p m opened member unsent),
     state_later s t (map_later _ s.instances (share_all_later f s.present s.circuits s.instances o i p m opened member unsent)) (λ c k e. e) admitted)
 
 -- ---- an input is given; a circuit is taken, evaluated, or given back
@@ -80,35 +82,45 @@ count_next f s id p i found member alive unsent k =
 give_next : (f : Fixed) (s : State) (c k : ℕ) → Kept f s → Next f s (record s { given = with_input s.given c k })
 give_next f s c k h =
     let t : State = record s { given = with_input s.given c k } in
-    (kept_by f t h.present h.circuits (length-set s.given c _ ∙ h.given) (ordered_in f s h),
+    (kept_by f t h.circuits (length-set s.given c _ ∙ h.given) (ordered_in f s h),
     state_later s t (all_reflexive s.instances) (λ d j e. given_stays s.given c k d j e) (circuits_reflexive s.circuits))
 
-open_admitted : (now : CircuitState) → is_open now ≡ true → is_refused now ≡ false
-open_admitted (Refused place bound limit) e = cc
-open_admitted Idle e = refl
-open_admitted (Taken caller) e = refl
-open_admitted Evaluated e = refl
-open_admitted Answered e = refl
+-- a circuit that may be changed is idle or taken
+record IsOpen (now : CircuitState) : Type 0 where
+  admitted : is_refused now ≡ false
+  unsettled : is_settled now ≡ false
+
+open_is : (caller : ℕ) (now : CircuitState) → MayTurn caller now → IsOpen now
+open_is caller (Refused place bound limit) (inl e) = cc
+open_is caller (Refused place bound limit) (inr e) = cc
+open_is caller Idle h = record { admitted = refl; unsettled = refl }
+open_is caller (Taken who) h = record { admitted = refl; unsettled = refl }
+open_is caller Evaluated (inl e) = cc
+open_is caller Evaluated (inr e) = cc
+open_is caller Answered (inl e) = cc
+open_is caller Answered (inr e) = cc
 
 -- one that is open is neither evaluated nor answered
-turn_other : (circuits : List CircuitState) (c d : ℕ) (now then_ : CircuitState) → is_open (circuit circuits c) ≡ true → is_open then_ ≡ false → circuit circuits d ≡ then_ → circuit (set circuits c now) d ≡ then_
+turn_other : (circuits : List CircuitState) (c d : ℕ) (now then_ : CircuitState) → is_settled (circuit circuits c) ≡ false → is_settled then_ ≡ true → circuit circuits d ≡ then_ → circuit (set circuits c now) d ≡ then_
 turn_other circuits c d now then_ free closed e = elim (cases_eq d c) [
-  | inl at ↦ absurd (both_ways (is_open then_) closed (subst (λ (z : CircuitState). is_open z ≡ true) e (subst (λ (z : ℕ). is_open (circuit circuits z) ≡ true) (sym at) free)))
+  | inl at ↦ absurd (both_ways (is_settled then_) (subst (λ (z : CircuitState). is_settled z ≡ false) e (subst (λ (z : ℕ). is_settled (circuit circuits z) ≡ false) (sym at) free)) closed)
   | inr off ↦ get_or-set_other circuits c d now Answered off ∙ e
 ]
 
-turn_decrypts : (circuits : List CircuitState) (c : ℕ) (now : CircuitState) (i : Instance) → is_open (circuit circuits c) ≡ true → Decrypts circuits i → Decrypts (set circuits c now) i
+turn_decrypts : (circuits : List CircuitState) (c : ℕ) (now : CircuitState) (i : Instance) → is_settled (circuit circuits c) ≡ false → Decrypts circuits i → Decrypts (set circuits c now) i
 turn_decrypts circuits c now i free d = record {
   opened = λ e its waits. turn_other circuits c e now Evaluated free refl (d.opened e its waits);
   complete = λ e its done. turn_other circuits c e now Answered free refl (d.complete e its done);
 }
 
-turn_next : (f : Fixed) (s : State) (c : ℕ) (now : CircuitState) → is_open (circuit s.circuits c) ≡ true → is_refused now ≡ false → Kept f s → Next f s (with_circuit s c now)
-turn_next f s c now free admitted k =
+turn_next : (f : Fixed) (s : State) (caller c : ℕ) (now : CircuitState) → MayTurn caller (circuit s.circuits c) → is_refused now ≡ false → Kept f s → Next f s (with_circuit s c now)
+turn_next f s caller c now may admitted k =
+    let was = open_is caller (circuit s.circuits c) may in
     let t : State = with_circuit s c now in
-    (kept_by f t k.present (length-set s.circuits c now ∙ k.circuits) k.given
-    (record { numbered = k.numbered; one = k.one; sound = k.sound; decrypts = λ i m. turn_decrypts s.circuits c now i free (k.decrypts i m); rounds = k.rounds }),
-    state_later s t (all_reflexive s.instances) (λ c k e. e) (set_admitted s.circuits c now (open_admitted (circuit s.circuits c) free) admitted))
+    (kept_by f t (length-set s.circuits c now ∙ k.circuits) k.given
+    (record { numbered = k.numbered; one = k.one; sound = k.sound; decrypts = λ i m. turn_decrypts s.circuits c now i was.unsettled (k.decrypts i m); rounds = k.rounds }),
+    state_later s t (all_reflexive s.instances) (λ c k e. e) (set_admitted s.circuits c now was.admitted admitted
+    (λ e. absurd (both_ways (is_settled (circuit s.circuits c)) was.unsettled e)) (λ e. absurd (both_ways (is_settled (circuit s.circuits c)) was.unsettled (rw e refl)))))
 
 -- ---- a move
 
@@ -135,29 +147,48 @@ move_next f s m e k =
     let t : State = record s { instances = instances_after s.instances m } in
     let o = ordered_in f s k in
     let is = move_is f s.present s.instances s.circuits m e in
-    (kept_by f t k.present k.circuits k.given (move_ordered f s.present s.instances s.circuits m o is),
+    (kept_by f t k.circuits k.given (move_ordered f s.present s.instances s.circuits m o is),
     state_later s t (move_later f s.present s.instances s.circuits m o is) (λ c k e. e) (circuits_reflexive s.circuits))
 
 -- ---- any change, any call, any list of calls
 
-pub change_next : (f : Fixed) (s t : State) → Kept f s → Change f s t → Next f s t
-change_next f s t k (joins p last e) = subst (λ (z : State). Next f s z) (sym e) (join_next f s p last k)
-change_next f s t k (loses p h e) = subst (λ (z : State). Next f s z) (sym e) (lose_next f s p h k)
-change_next f s t k (counts id p i found member alive unsent e) = subst (λ (z : State). Next f s z) (sym e) (count_next f s id p i found member alive unsent k)
-change_next f s t k (gives c j e) = subst (λ (z : State). Next f s z) (sym e) (give_next f s c j k)
-change_next f s t k (turns c now free admitted e) = subst (λ (z : State). Next f s z) (sym e) (turn_next f s c now free admitted k)
-change_next f s t k (moves m next e) = subst (λ (z : State). Next f s z) (sym e) (move_next f s m next k)
+abbrev Anybody : ℕ → Type 0
+Anybody p = ⊤
 
-pub step_next : (f : Fixed) (s : State) (caller : ℕ) (c : Call) → NamesParty c → Kept f s → Next f s (step f s caller c).1
-step_next f = step_goes f (Kept f) IsLater later_reflexive later_transitive (change_next f)
+change_next : (caller : ℕ) (f : Fixed) (s t : State) → Kept f s → Change Anybody caller f s t → Next f s t
+change_next caller f s t k (joins p _ e) = subst (λ (z : State). Next f s z) (sym e) (join_next f s p k)
+change_next caller f s t k (loses p h e) = subst (λ (z : State). Next f s z) (sym e) (lose_next f s p h k)
+change_next caller f s t k (counts id p i found member alive unsent e) = subst (λ (z : State). Next f s z) (sym e) (count_next f s id p i found member alive unsent k)
+change_next caller f s t k (gives c j e) = subst (λ (z : State). Next f s z) (sym e) (give_next f s c j k)
+change_next caller f s t k (turns c now may admitted e) = subst (λ (z : State). Next f s z) (sym e) (turn_next f s caller c now may admitted k)
+change_next caller f s t k (moves m next e) = subst (λ (z : State). Next f s z) (sym e) (move_next f s m next k)
 
-pub after_next : (f : Fixed) (s : State) (es : List Entry) → NameParties es → Kept f s → Next f s (after f s es)
-after_next f = after_goes f (Kept f) IsLater later_reflexive later_transitive (change_next f)
+anybody_joins : (c : Call) → Joins Anybody c
+anybody_joins (call.Join p) = tt
+anybody_joins (call.Lose p) = tt
+anybody_joins (call.Pending p) = tt
+anybody_joins (call.Brief id) = tt
+anybody_joins (call.Deliver id p rows) = tt
+anybody_joins (call.Input c k) = tt
+anybody_joins call.Take = tt
+anybody_joins (call.Finish c) = tt
+anybody_joins (call.GiveBack c) = tt
+
+pub step_next : (f : Fixed) (s : State) (caller : ℕ) (c : Call) → Kept f s → Next f s (step f s caller c).1
+step_next f s caller c k = step_goes f Anybody caller (Kept f) IsLater later_reflexive later_transitive (change_next caller f) s c (anybody_joins c) k
+
+pub after_next : (f : Fixed) (s : State) (es : List Entry) → Kept f s → Next f s (after f s es)
+unfolding after
+after_next f s [] k = (k, later_reflexive s)
+after_next f s (e ∷ es) k =
+    let t : State = (step f s e.caller e.call).1 in
+    let one = step_next f s e.caller e.call k in
+    let rest = after_next f t es one.0 in
+    (rest.0, later_transitive s t (after f t es) one.1 rest.1)
 
 pub opening_kept : (f : Fixed) → Kept f (opening f)
 unfolding opening
 opening_kept f = record {
-  present = omega arith;
   circuits = length-map f.plans opening_of;
   given = length-map f.plans none_given;
   numbered = λ k d l. absurd (omega arith);
@@ -167,6 +198,5 @@ opening_kept f = record {
   rounds = λ i m second alive. absurd (contains_nil i m);
 }
 
--- every state after calls of parties
-pub kept_after : (f : Fixed) (es : List Entry) → NameParties es → Kept f (state_after f es)
-kept_after f es n = (after_next f (opening f) es n (opening_kept f)).0
+pub state_kept : (f : Fixed) (es : List Entry) → Kept f (state_after f es)
+state_kept f es = (after_next f (opening f) es (opening_kept f)).0

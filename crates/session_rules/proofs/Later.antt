@@ -17,7 +17,7 @@ use Rattle.session_rules.specs.declared.state.CircuitState.{CircuitState}
 use Rattle.session_rules.specs.declared.state.CircuitState.TheVariants.{Answered}
 use Rattle.session_rules.specs.States.{State, circuit, is_given, is_refused}
 use Rattle.session_rules.specs.Steps.{with_input, fallen, falls, answered_by}
-use Rattle.session_rules.specs.Facts.{IsLive, IsSameLater, IsLater}
+use Rattle.session_rules.specs.Facts.{IsLive, IsSameLater, IsLater, is_settled}
 use Rattle.session_rules.proofs.Marks.{IsDone}
 use Rattle.session_rules.proofs.PartySets.{with_keeps}
 
@@ -114,9 +114,11 @@ pub record StayAdmitted (before now : List CircuitState) : Type 0 where
   pub length : length now ≡ length before
   pub refused : (c : ℕ) → is_refused (circuit before c) ≡ true → circuit now c ≡ circuit before c
   pub admitted : (c : ℕ) → is_refused (circuit before c) ≡ false → is_refused (circuit now c) ≡ false
+  pub evaluated : (c : ℕ) → is_settled (circuit before c) ≡ true → is_settled (circuit now c) ≡ true
+  pub answered : (c : ℕ) → circuit before c ≡ Answered → circuit now c ≡ Answered
 
 pub circuits_reflexive : (circuits : List CircuitState) → StayAdmitted circuits circuits
-circuits_reflexive circuits = record { length = refl; refused = λ c e. refl; admitted = λ c e. e }
+circuits_reflexive circuits = record { length = refl; refused = λ c e. refl; admitted = λ c e. e; evaluated = λ c e. e; answered = λ c e. e }
 
 -- a circuit at c, or none of them where there is no circuit c
 pub circuit_set : (circuits : List CircuitState) (c : ℕ) (now : CircuitState) → (circuit (set circuits c now) c ≡ now) ⊎ (set circuits c now ≡ circuits)
@@ -125,20 +127,29 @@ circuit_set circuits c now = elim (cases_lt c (length circuits)) [
   | inr more ↦ inr (set_past circuits c now more)
 ]
 
-pub set_admitted : (circuits : List CircuitState) (c : ℕ) (now : CircuitState) → is_refused (circuit circuits c) ≡ false → is_refused now ≡ false → StayAdmitted circuits (set circuits c now)
-set_admitted circuits c now was is = record {
+-- a fact about each circuit, where the new one keeps it
+set_keeps : (P : CircuitState → Type 0) (circuits : List CircuitState) (c : ℕ) (now : CircuitState) → (P (circuit circuits c) → P now) → (d : ℕ) → P (circuit circuits d) → P (circuit (set circuits c now) d)
+set_keeps P circuits c now h d e = elim (cases_eq d c) [
+  | inl same ↦
+      let there : P (circuit circuits c) = subst (λ (z : ℕ). P (circuit circuits z)) same e in
+      subst (λ (z : ℕ). P (circuit (set circuits c now) z)) (sym same) (elim (circuit_set circuits c now) [
+        | inl at ↦ subst P (sym at) (h there)
+        | inr none ↦ subst (λ (z : List CircuitState). P (circuit z c)) (sym none) there
+      ])
+  | inr other ↦ subst P (sym (get_or-set_other circuits c d now Answered other)) e
+]
+
+pub set_admitted : (circuits : List CircuitState) (c : ℕ) (now : CircuitState) → is_refused (circuit circuits c) ≡ false → is_refused now ≡ false
+    → (is_settled (circuit circuits c) ≡ true → is_settled now ≡ true) → (circuit circuits c ≡ Answered → now ≡ Answered) → StayAdmitted circuits (set circuits c now)
+set_admitted circuits c now was is settled answered = record {
   length = length-set circuits c now;
   refused = λ d e. elim (cases_eq d c) [
     | inl same ↦ absurd (both_ways (is_refused (circuit circuits d)) (subst (λ (z : ℕ). is_refused (circuit circuits z) ≡ false) (sym same) was) e)
     | inr other ↦ get_or-set_other circuits c d now Answered other
   ];
-  admitted = λ d e. elim (cases_eq d c) [
-    | inl same ↦ subst (λ (z : ℕ). is_refused (circuit (set circuits c now) z) ≡ false) (sym same) (elim (circuit_set circuits c now) [
-      | inl at ↦ rw at is
-      | inr none ↦ rw none was
-    ])
-    | inr other ↦ rw (get_or-set_other circuits c d now Answered other) e
-  ];
+  admitted = set_keeps (λ z. is_refused z ≡ false) circuits c now (λ e. is);
+  evaluated = set_keeps (λ z. is_settled z ≡ true) circuits c now settled;
+  answered = set_keeps (λ z. z ≡ Answered) circuits c now answered;
 }
 
 -- ---- inputs
@@ -167,7 +178,7 @@ given_stays given c k d j e = elim (cases_eq d c) [
 pub state_later : (before now : State) → AreLater before.instances now.instances → ((c k : ℕ) → is_given before c k ≡ true → is_given now c k ≡ true) → StayAdmitted before.circuits now.circuits → IsLater before now
 state_later before now is given circuits = record {
   issued = is.issued; same = is.same; given = given;
-  circuits = circuits.length; refused = circuits.refused; admitted = circuits.admitted;
+  circuits = circuits.length; refused = circuits.refused; admitted = circuits.admitted; evaluated = circuits.evaluated; answered = circuits.answered;
 }
 
 pub later_reflexive : (s : State) → IsLater s s
@@ -181,4 +192,6 @@ later_transitive s t u x y = record {
   circuits = y.circuits ∙ x.circuits;
   refused = λ c e. let first = x.refused c e in y.refused c (rw first e) ∙ first;
   admitted = λ c e. y.admitted c (x.admitted c e);
+  evaluated = λ c e. y.evaluated c (x.evaluated c e);
+  answered = λ c e. y.answered c (x.answered c e);
 }

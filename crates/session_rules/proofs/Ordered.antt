@@ -34,9 +34,9 @@ pub record Ordered (f : Fixed) (present : ℕ) (circuits : List CircuitState) (i
 pub ordered_in : (f : Fixed) (s : State) → Kept f s → Ordered f s.present s.circuits s.instances
 ordered_in f s k = record { numbered = k.numbered; one = k.one; sound = k.sound; decrypts = k.decrypts; rounds = k.rounds }
 
-pub kept_by : (f : Fixed) (s : State) → s.present < 2 ^ 32 → length s.circuits ≡ length f.plans → length s.given ≡ length f.plans → Ordered f s.present s.circuits s.instances → Kept f s
-kept_by f s present circuits given o = record {
-  present = present; circuits = circuits; given = given;
+pub kept_by : (f : Fixed) (s : State) → length s.circuits ≡ length f.plans → length s.given ≡ length f.plans → Ordered f s.present s.circuits s.instances → Kept f s
+kept_by f s circuits given o = record {
+  circuits = circuits; given = given;
   numbered = o.numbered; one = o.one; sound = o.sound; decrypts = o.decrypts; rounds = o.rounds;
 }
 

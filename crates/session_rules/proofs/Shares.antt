@@ -75,7 +75,7 @@ answered_admitted Pk circuits h = circuits_reflexive circuits
 answered_admitted Rlk1 circuits h = circuits_reflexive circuits
 answered_admitted Rlk2 circuits h = circuits_reflexive circuits
 answered_admitted (Rot g) circuits h = circuits_reflexive circuits
-answered_admitted (Dec c) circuits h = set_admitted circuits c Answered (h c refl) refl
+answered_admitted (Dec c) circuits h = set_admitted circuits c Answered (h c refl) refl (λ e. refl) (λ e. refl)
 
 -- ---- the share
 

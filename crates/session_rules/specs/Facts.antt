@@ -1,5 +1,5 @@
 -- What holds of the rules, whatever is called.
-use Rattle.std.specs.Prelude.{◌≡◌, ◌≢◌, ℕ, ◌+◌, ◌^◌, ◌<◌, ◌≤◌, Bool, true, false, List, [], ◌∷◌, length, ⊤}
+use Rattle.std.specs.Prelude.{◌≡◌, ◌≢◌, ℕ, ◌+◌, ◌^◌, ◌<◌, ◌≤◌, Bool, true, false, ◌||◌, List, [], ◌∷◌, length, ⊤}
 use Rattle.std.specs.List.{slice_index_or, Contains}
 use Rattle.share_spec.specs.Sets.{has, count}
 use Rattle.proto_names.specs.Names.{is_void}
@@ -15,24 +15,18 @@ use Rattle.session_rules.specs.declared.call.Call.TheVariants as call
 use Rattle.session_rules.specs.declared.call.Entry.{Entry}
 use Rattle.session_rules.specs.declared.reply.Reply.{Reply}
 use Rattle.session_rules.specs.declared.reply.Reply.TheVariants.{Joined, Left, Counted, Completed, Given, Job, Finished, Returned}
-use Rattle.session_rules.specs.States.{State, circuit, is_given, is_refused}
+use Rattle.session_rules.specs.States.{State, circuit, is_given, is_refused, is_evaluated, is_answered}
 
 -- ---- calls
 
--- p is a party, from 1 to 32
-pub record IsParty (p : ℕ) : Type 0 where
-  pub first : 1 ≤ p
-  pub last : p ≤ 32
+-- who joins is one of the parties up to 32; and so in a list of calls
+abbrev pub JoinsParty : Call → Type 0
+JoinsParty (call.Join p) = p ≤ 32
+JoinsParty _ = ⊤
 
--- a join or a loss is of a party; and so in a list of calls
-abbrev pub NamesParty : Call → Type 0
-NamesParty (call.Join p) = IsParty p
-NamesParty (call.Lose p) = IsParty p
-NamesParty _ = ⊤
-
-abbrev pub NameParties : List Entry → Type 0
-NameParties [] = ⊤
-NameParties (e ∷ es) = NamesParty e.call × NameParties es
+abbrev pub JoinParties : List Entry → Type 0
+JoinParties [] = ⊤
+JoinParties (e ∷ es) = JoinsParty e.call × JoinParties es
 
 -- ---- refusals
 
@@ -92,7 +86,6 @@ abbrev pub OneLives : List Instance → Type 0
 OneLives is = (i j : Instance) → Contains is i → Contains is j → i.signature ≡ j.signature → IsLive i → IsLive j → i.id ≡ j.id
 
 pub record Kept (f : Fixed) (s : State) : Type 0 where
-  pub present : s.present < 2 ^ 32
   pub circuits : length s.circuits ≡ length f.plans
   pub given : length s.given ≡ length f.plans
   pub numbered : Numbered s.instances
@@ -116,6 +109,10 @@ pub record IsSameLater (before now : Instance) : Type 0 where
   pub void : (by : ℕ) → before.stage ≡ Void by → now.stage ≡ Void by
   pub complete : before.signature ≢ Rlk1 → before.stage ≡ Complete → now.stage ≡ Complete
 
+-- a circuit that is evaluated, whether or not it is answered
+abbrev pub is_settled : CircuitState → Bool
+is_settled now = is_evaluated now || is_answered now
+
 -- a state, and a later one
 pub record IsLater (before now : State) : Type 0 where
   pub issued : length before.instances ≤ length now.instances
@@ -124,3 +121,5 @@ pub record IsLater (before now : State) : Type 0 where
   pub circuits : length now.circuits ≡ length before.circuits
   pub refused : (c : ℕ) → is_refused (circuit before.circuits c) ≡ true → circuit now.circuits c ≡ circuit before.circuits c
   pub admitted : (c : ℕ) → is_refused (circuit before.circuits c) ≡ false → is_refused (circuit now.circuits c) ≡ false
+  pub evaluated : (c : ℕ) → is_settled (circuit before.circuits c) ≡ true → is_settled (circuit now.circuits c) ≡ true
+  pub answered : (c : ℕ) → circuit before.circuits c ≡ Answered → circuit now.circuits c ≡ Answered
