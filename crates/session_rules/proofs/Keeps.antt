@@ -152,10 +152,10 @@ move_next f s m e k =
 
 -- ---- any change, any call, any list of calls
 
-abbrev Anybody : ℕ → Type 0
+abbrev pub Anybody : ℕ → Type 0
 Anybody p = ⊤
 
-change_next : (caller : ℕ) (f : Fixed) (s t : State) → Kept f s → Change Anybody caller f s t → Next f s t
+pub change_next : (caller : ℕ) (f : Fixed) (s t : State) → Kept f s → Change Anybody caller f s t → Next f s t
 change_next caller f s t k (joins p _ e) = subst (λ (z : State). Next f s z) (sym e) (join_next f s p k)
 change_next caller f s t k (loses p h e) = subst (λ (z : State). Next f s z) (sym e) (lose_next f s p h k)
 change_next caller f s t k (counts id p i found member alive unsent e) = subst (λ (z : State). Next f s z) (sym e) (count_next f s id p i found member alive unsent k)
@@ -163,7 +163,7 @@ change_next caller f s t k (gives c j e) = subst (λ (z : State). Next f s z) (s
 change_next caller f s t k (turns c now may admitted e) = subst (λ (z : State). Next f s z) (sym e) (turn_next f s caller c now may admitted k)
 change_next caller f s t k (moves m next e) = subst (λ (z : State). Next f s z) (sym e) (move_next f s m next k)
 
-anybody_joins : (c : Call) → Joins Anybody c
+pub anybody_joins : (c : Call) → Joins Anybody c
 anybody_joins (call.Join p) = tt
 anybody_joins (call.Lose p) = tt
 anybody_joins (call.Pending p) = tt

@@ -34,7 +34,7 @@ lacking_opened f present i p s alive member unsent = elim (live_cases i.stage al
 -- ---- circuits
 
 -- a circuit whose decryption it isn't stays
-answered_other : (σ : Signature) (circuits : List CircuitState) (c : ℕ) → (σ ≡ Dec c → ⊥) → circuit (answered_by σ circuits) c ≡ circuit circuits c
+pub answered_other : (σ : Signature) (circuits : List CircuitState) (c : ℕ) → (σ ≡ Dec c → ⊥) → circuit (answered_by σ circuits) c ≡ circuit circuits c
 unfolding answered_by
 answered_other Pk circuits c n = refl
 answered_other Rlk1 circuits c n = refl
@@ -53,7 +53,7 @@ answered_its : (σ : Signature) (circuits : List CircuitState) (c : ℕ) → σ 
 unfolding answered_by
 answered_its σ circuits c e = rw e (answered_at circuits c)
 
-decides_dec : (σ : Signature) (c : ℕ) → (σ ≡ Dec c) ⊎ (σ ≡ Dec c → ⊥)
+pub decides_dec : (σ : Signature) (c : ℕ) → (σ ≡ Dec c) ⊎ (σ ≡ Dec c → ⊥)
 decides_dec Pk c = inr (λ e. cc)
 decides_dec Rlk1 c = inr (λ e. cc)
 decides_dec Rlk2 c = inr (λ e. cc)

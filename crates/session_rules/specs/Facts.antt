@@ -1,21 +1,27 @@
 -- What holds of the rules, whatever is called.
-use Rattle.std.specs.Prelude.{◌≡◌, ◌≢◌, ℕ, ◌+◌, ◌^◌, ◌<◌, ◌≤◌, Bool, true, false, ◌||◌, List, [], ◌∷◌, length, ⊤}
-use Rattle.std.specs.List.{slice_index_or, Contains}
+use Rattle.std.specs.Prelude.{◌≡◌, ◌≢◌, ℕ, ◌+◌, ◌^◌, ◌<◌, ◌≤◌, Bool, true, false, ◌||◌, List, [], ◌∷◌, length, Some, None, ⊤}
+use Rattle.std.specs.List.{slice_index_or, Contains, fold}
 use Rattle.share_spec.specs.Sets.{has, count}
-use Rattle.proto_names.specs.Names.{is_void}
+use Rattle.proto_names.specs.Names.{is_void, rows_of}
 use Rattle.proto_names.specs.Groups.{number_outside}
+use Rattle.proto_names.specs.Instances.{instance}
+use Rattle.proto_names.specs.declared.signature.Signature.{Signature}
 use Rattle.proto_names.specs.declared.signature.Signature.TheVariants.{Rlk1, Rlk2, Dec}
 use Rattle.proto_names.specs.declared.instance.Instance.{Instance}
 use Rattle.proto_names.specs.declared.instance.Stage.TheVariants.{Opened, Complete, Void}
 use Rattle.session_rules.specs.declared.state.CircuitState.{CircuitState}
-use Rattle.session_rules.specs.declared.state.CircuitState.TheVariants.{Evaluated, Answered}
+use Rattle.session_rules.specs.declared.state.CircuitState.TheVariants.{Taken, Evaluated, Answered}
 use Rattle.session_rules.specs.declared.fixed.Fixed.{Fixed}
 use Rattle.session_rules.specs.declared.call.Call.{Call}
 use Rattle.session_rules.specs.declared.call.Call.TheVariants as call
 use Rattle.session_rules.specs.declared.call.Entry.{Entry}
 use Rattle.session_rules.specs.declared.reply.Reply.{Reply}
+use Rattle.session_rules.specs.declared.reply.Reply.TheVariants as reply
 use Rattle.session_rules.specs.declared.reply.Reply.TheVariants.{Joined, Left, Counted, Completed, Given, Job, Finished, Returned}
-use Rattle.session_rules.specs.States.{State, circuit, is_given, is_refused, is_evaluated, is_answered}
+use Rattle.session_rules.specs.States.{State, circuit, is_given, is_refused, is_evaluated, is_answered, has_done}
+use Rattle.session_rules.specs.Issues.{next_move, instances_after, moves, most_moves, issue}
+use Rattle.session_rules.specs.Steps.{counted, deliver, step}
+use Rattle.session_rules.specs.Histories.{after, state_after}
 
 -- ---- calls
 
@@ -123,3 +129,80 @@ pub record IsLater (before now : State) : Type 0 where
   pub admitted : (c : ℕ) → is_refused (circuit before.circuits c) ≡ false → is_refused (circuit now.circuits c) ≡ false
   pub evaluated : (c : ℕ) → is_settled (circuit before.circuits c) ≡ true → is_settled (circuit now.circuits c) ≡ true
   pub answered : (c : ℕ) → circuit before.circuits c ≡ Answered → circuit now.circuits c ≡ Answered
+
+-- ---- the laws
+
+-- a reply that refuses leaves the state as it was
+abbrev pub RefusalsChangeNothing : Type 0
+RefusalsChangeNothing = (f : Fixed) (s : State) (caller : ℕ) (c : Call) → Refuses s (step f s caller c)
+
+-- what holds at first is kept by every call, whatever it is and whoever makes it
+abbrev pub CallsKeep : Type 0
+CallsKeep = (f : Fixed) (s : State) (caller : ℕ) (c : Call) → Kept f s → Kept f (step f s caller c).1
+
+abbrev pub HistoriesKeep : Type 0
+HistoriesKeep = (f : Fixed) (es : List Entry) → Kept f (state_after f es)
+
+-- those that are present are parties, where parties join
+abbrev pub PartiesArePresent : Type 0
+PartiesArePresent = (f : Fixed) (es : List Entry) → JoinParties es → (state_after f es).present < 2 ^ 32
+
+-- what never changes, over any calls
+abbrev pub CallsLeave : Type 0
+CallsLeave = (f : Fixed) (s : State) (caller : ℕ) (c : Call) → Kept f s → IsLater s (step f s caller c).1
+
+abbrev pub HistoriesLeave : Type 0
+HistoriesLeave = (f : Fixed) (s : State) (es : List Entry) → Kept f s → IsLater s (after f s es)
+
+-- a complete key other than a first round is there later too
+abbrev pub KeysStay : Type 0
+KeysStay = (s t : State) (σ : Signature) → IsLater s t → σ ≢ Rlk1 → has_done σ s.instances ≡ true → has_done σ t.instances ≡ true
+
+-- the instance at a place is the first round of that at another
+pub record IsFirstAt (is : List Instance) (second first : ℕ) (d : Instance) : Type 0 where
+  pub within : second < length is
+  pub below : first < length is
+  pub signature : (slice_index_or is second d).signature ≡ Rlk2
+  pub complete : (slice_index_or is second d).stage ≡ Complete
+  pub round1 : (slice_index_or is second d).round1 ≡ (slice_index_or is first d).id
+
+-- the first round of a complete second one stays complete
+abbrev pub FirstRoundsStay : Type 0
+FirstRoundsStay = (f : Fixed) (s : State) (es : List Entry) (second first : ℕ) (d : Instance) → Kept f s → IsFirstAt s.instances second first d
+    → (slice_index_or (after f s es).instances first d).stage ≡ Complete
+
+-- a circuit that a caller has taken is its own until it calls
+abbrev pub TakenStays : Type 0
+TakenStays = (f : Fixed) (s : State) (caller who : ℕ) (c : Call) (circuit_ : ℕ) → Kept f s → who ≢ caller
+    → circuit s.circuits circuit_ ≡ Taken who → circuit (step f s caller c).1.circuits circuit_ ≡ Taken who
+
+-- issuing ends: then neither rule applies, after at most as many moves as are allowed, which are made
+-- one after the other
+abbrev pub IssueEnds : Type 0
+IssueEnds = (f : Fixed) (s : State) → Kept f s → next_move f s.present (issue f s).instances s.circuits ≡ None
+
+abbrev pub IssueIsItsMoves : Type 0
+IssueIsItsMoves = (f : Fixed) (s : State) → (issue f s).instances ≡ fold instances_after s.instances (moves f s)
+
+abbrev pub MovesAreFew : Type 0
+MovesAreFew = (f : Fixed) (s : State) → length (moves f s) ≤ most_moves f
+
+-- a party of an instance that isn't void
+pub record TakesPart (s : State) (id p : ℕ) (i : Instance) : Type 0 where
+  pub issued : instance s.instances id ≡ Some i
+  pub member : has i.set.bits p ≡ true
+  pub lives : IsLive i
+
+-- where it hasn't sent, the instance is opened; a share of the right length is counted
+abbrev pub SharesAreWanted : Type 0
+SharesAreWanted = (f : Fixed) (s : State) (id p : ℕ) (i : Instance) → Kept f s → TakesPart s id p i → has i.sent.bits p ≡ false
+    → (i.stage ≡ Opened) × (deliver f s id p (rows_of i.signature f.rows) ≡ counted f s i p)
+
+-- where it has, the share is a repeat; and so it is at a complete instance
+abbrev pub SharesAreCountedOnce : Type 0
+SharesAreCountedOnce = (f : Fixed) (s : State) (id p rows : ℕ) (i : Instance) → TakesPart s id p i → has i.sent.bits p ≡ true
+    → deliver f s id p rows ≡ (reply.Repeat, s)
+
+abbrev pub CompleteOnesLackNone : Type 0
+CompleteOnesLackNone = (f : Fixed) (s : State) (id p rows : ℕ) (i : Instance) → Kept f s → TakesPart s id p i → i.stage ≡ Complete
+    → deliver f s id p rows ≡ (reply.Repeat, s)
