@@ -24,7 +24,7 @@ use Rattle.session_rules.specs.States.{State, circuit, is_refused, has_live, ope
 use Rattle.session_rules.specs.Issues.{next_move, instances_after, least_present}
 use Rattle.session_rules.specs.Steps.{after_loss, with_input, with_circuit, answered_by, step}
 use Rattle.session_rules.specs.Histories.{after, state_after}
-use Rattle.session_rules.specs.Facts.{is_settled, IsLive, IsSound, Decrypts, HasFirst, Kept, IsLater}
+use Rattle.session_rules.specs.Facts.{is_settled, CallsKeep, HistoriesKeep, CallsLeave, HistoriesLeave, IsLive, IsSound, Decrypts, HasFirst, Kept, IsLater}
 use Rattle.session_rules.proofs.Changes.{Change, joins, loses, counts, gives, turns, moves, MayTurn, Joins, after_count, step_goes}
 use Rattle.session_rules.proofs.Contained.{contains_nil}
 use Rattle.session_rules.proofs.Marks.{IsDone, instance_within}
@@ -200,3 +200,17 @@ opening_kept f = record {
 
 pub state_kept : (f : Fixed) (es : List Entry) → Kept f (state_after f es)
 state_kept f es = (after_next f (opening f) es (opening_kept f)).0
+
+-- ---- as laws
+
+pub calls_keep : CallsKeep
+calls_keep f s caller c k = (step_next f s caller c k).0
+
+pub histories_keep : HistoriesKeep
+histories_keep f es = state_kept f es
+
+pub calls_leave : CallsLeave
+calls_leave f s caller c k = (step_next f s caller c k).1
+
+pub histories_leave : HistoriesLeave
+histories_leave f s es k = (after_next f s es k).1

@@ -4,14 +4,15 @@
 //! parties that are present, the instances of protocols, the inputs that are given, and how far each
 //! circuit has come; it holds no polynomial. `specs/` says for each caller and each call what the
 //! reply is and what the state is then: a history is legal where each reply is the one said there.
-//! Callers may rely on the laws of `proofs/`: of each signature at most one instance lives, and what
-//! was issued keeps its signature and its parties. Nothing is said here of shares or keys.
+//! Callers may rely on the laws of `laws`: of each signature at most one instance lives, what was
+//! issued keeps its signature and its parties, and issuing ends. Nothing is said here of shares or keys.
 #![tactic(auto)]
 
 mod call;
 mod fixed;
 mod given;
 mod issue;
+pub mod laws;
 mod line;
 mod moves;
 mod owed;

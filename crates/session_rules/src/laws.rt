@@ -1,0 +1,45 @@
+//! What follows from the rules, whatever is called: each function states a law, and does nothing.
+ghost use Rattle.session_rules.specs.Facts.{RefusalsChangeNothing, CallsKeep, HistoriesKeep, PartiesArePresent, CallsLeave, HistoriesLeave, KeysStay, FirstRoundsStay, TakenStays, IssueEnds, IssueIsItsMoves, MovesAreFew, SharesAreWanted, SharesAreCountedOnce, CompleteOnesLackNone};
+
+/// A reply that refuses goes with the state as it was.
+pub fn refusals()
+    ensures { RefusalsChangeNothing }
+{
+}
+
+/// What holds in every state that calls lead to: of each signature at most one instance is opened or
+/// complete, the parties that an opened one waits for are present, a second round has its first one,
+/// and the instances are numbered from 1 on.
+pub fn invariants()
+    ensures calls { CallsKeep }
+    ensures histories { HistoriesKeep }
+    ensures present { PartiesArePresent }
+{
+}
+
+/// What no call changes: an instance's number, signature, parties and attempt, and what is complete,
+/// void, given, refused, evaluated or answered. A circuit that is taken is its caller's.
+pub fn constancy()
+    ensures calls { CallsLeave }
+    ensures histories { HistoriesLeave }
+    ensures keys { KeysStay }
+    ensures first_rounds { FirstRoundsStay }
+    ensures taken { TakenStays }
+{
+}
+
+/// Issuing ends after few moves, and does them one after the other.
+pub fn issuing()
+    ensures ends { IssueEnds }
+    ensures moves { IssueIsItsMoves }
+    ensures few { MovesAreFew }
+{
+}
+
+/// Each share of an instance that isn't void is counted once.
+pub fn shares()
+    ensures wanted { SharesAreWanted }
+    ensures once { SharesAreCountedOnce }
+    ensures complete { CompleteOnesLackNone }
+{
+}
