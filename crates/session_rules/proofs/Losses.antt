@@ -45,15 +45,11 @@ either_one P false now a yes_ no_ = no_ refl
 
 -- ---- rule 1: a complete first round is given up
 
-void_at_most : (is : List Instance) (i a : Instance) (by : ℕ) → (f : Fixed) (present : ℕ) (circuits : List CircuitState) → Ordered f present circuits is
-    → Contains is i → IsDone Rlk1 i → Contains is a → IsSameLater a (given_up i.id by a)
-void_at_most is i a by f present circuits o within done m =
-    where_so a (record a { stage = Void by }) (nat_eq a.id i.id)
-    (λ e. void_later a by (inr (subst (λ (z : Instance). IsDone Rlk1 z) (one_number is i a o.numbered within m (sym (eqb-true a.id i.id e))) done)))
-
 pub give_up_later : (is : List Instance) (i : Instance) (by : ℕ) → (f : Fixed) (present : ℕ) (circuits : List CircuitState) → Ordered f present circuits is
     → Contains is i → IsDone Rlk1 i → (a : Instance) → Contains is a → IsSameLater a (given_up i.id by a)
-give_up_later is i by f present circuits o within done a m = void_at_most is i a by f present circuits o within done m
+give_up_later is i by f present circuits o within done a m =
+    where_so a (record a { stage = Void by }) (nat_eq a.id i.id)
+    (λ e. void_later a by (inr (subst (λ (z : Instance). IsDone Rlk1 z) (one_number is i a o.numbered within m (sym (eqb-true a.id i.id e))) done)))
 
 pub give_up_ordered : (is : List Instance) (i : Instance) (by : ℕ) → (f : Fixed) (present : ℕ) (circuits : List CircuitState) → Ordered f present circuits is
     → Contains is i → IsDone Rlk1 i → has_live Rlk2 is ≡ false → Ordered f present circuits (after_void i.id by is)

@@ -113,8 +113,6 @@ module _ (f : Fixed) (present : ℕ) (circuits : List CircuitState) (is : List I
         awaited = λ e q h n. s.awaited opened q h (false_from_ne_true (has i.sent.bits q) (λ old. both_ways (has (with_party i.sent.bits p) q) n (with_keeps i.sent.bits p q old)));
       }
     where
-      stage_at : ℕ → Stage
-      stage_at n = if nat_eq n 0 then Complete else Opened
       by_zero : (n : ℕ) (b : Bool) → nat_eq n 0 ≡ b → (if b then Complete else Opened) ≡ Complete → n ≡ 0
       by_zero n true z e = eqb-true n 0 z
       by_zero n false z e = cc

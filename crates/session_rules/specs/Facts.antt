@@ -1,5 +1,5 @@
 -- What holds of the rules, whatever is called.
-use Rattle.std.specs.Prelude.{◌≡◌, ◌≢◌, ℕ, ◌+◌, ◌^◌, ◌<◌, ◌≤◌, Bool, true, false, ◌||◌, List, [], ◌∷◌, length, Some, None, ⊤}
+use Rattle.std.specs.Prelude.{◌≡◌, ◌≢◌, ℕ, ◌+◌, ◌*◌, ◌^◌, ◌<◌, ◌≤◌, Bool, true, false, ◌||◌, List, [], ◌∷◌, ◌++◌, length, Some, None, ⊤}
 use Rattle.std.specs.List.{slice_index_or, Contains, fold}
 use Rattle.share_spec.specs.Sets.{has, count}
 use Rattle.proto_names.specs.Names.{is_void, rows_of}
@@ -21,7 +21,7 @@ use Rattle.session_rules.specs.declared.reply.Reply.TheVariants.{Joined, Left, C
 use Rattle.session_rules.specs.States.{State, circuit, is_given, is_refused, is_evaluated, is_answered, has_done}
 use Rattle.session_rules.specs.Issues.{next_move, instances_after, moves, most_moves, issue}
 use Rattle.session_rules.specs.Steps.{counted, deliver, step}
-use Rattle.session_rules.specs.Histories.{after, state_after}
+use Rattle.session_rules.specs.Histories.{after, state_after, IsLegal}
 
 -- ---- calls
 
@@ -206,3 +206,44 @@ SharesAreCountedOnce = (f : Fixed) (s : State) (id p rows : ℕ) (i : Instance) 
 abbrev pub CompleteOnesLackNone : Type 0
 CompleteOnesLackNone = (f : Fixed) (s : State) (id p rows : ℕ) (i : Instance) → Kept f s → TakesPart s id p i → i.stage ≡ Complete
     → deliver f s id p rows ≡ (reply.Repeat, s)
+
+-- few instances are issued: a call issues at most as many as there are moves
+abbrev pub FewAreIssued : Type 0
+FewAreIssued = (f : Fixed) (s : State) (caller : ℕ) (c : Call) → length (step f s caller c).1.instances ≤ length s.instances + most_moves f
+
+abbrev pub HistoriesIssueFew : Type 0
+HistoriesIssueFew = (f : Fixed) (es : List Entry) → length (state_after f es).instances ≤ length es * most_moves f
+
+-- ---- histories
+
+-- an entry with the reply that it has to have
+abbrev pub answered : Fixed → State → ℕ → Call → Entry
+answered f s caller c = record { caller = caller; call = c; reply = (step f s caller c).0 }
+
+-- a legal history with one more call is legal, and where it leads
+abbrev pub LegalOnesGrow : Type 0
+LegalOnesGrow = (f : Fixed) (es : List Entry) (caller : ℕ) (c : Call) → IsLegal f es → IsLegal f (es ++ answered f (state_after f es) caller c ∷ [])
+
+abbrev pub NextState : Type 0
+NextState = (f : Fixed) (es : List Entry) (e : Entry) → state_after f (es ++ e ∷ []) ≡ (step f (state_after f es) e.caller e.call).1
+
+-- each beginning of a legal history is legal, and what comes behind it leads on from there
+abbrev pub BeginningsAreLegal : Type 0
+BeginningsAreLegal = (f : Fixed) (es more : List Entry) → IsLegal f (es ++ more) → IsLegal f es
+
+abbrev pub StatesLeadOn : Type 0
+StatesLeadOn = (f : Fixed) (es more : List Entry) → state_after f (es ++ more) ≡ after f (state_after f es) more
+
+-- so what an earlier state says of what never changes, a later one says too
+abbrev pub LaterOnesFollow : Type 0
+LaterOnesFollow = (f : Fixed) (es more : List Entry) → IsLater (state_after f es) (state_after f (es ++ more))
+
+-- a caller that makes none of some calls
+abbrev pub NoneBy : ℕ → List Entry → Type 0
+NoneBy who [] = ⊤
+NoneBy who (e ∷ es) = (who ≢ e.caller) × NoneBy who es
+
+-- keeps the circuit that it has taken
+abbrev pub TakenStaysOn : Type 0
+TakenStaysOn = (f : Fixed) (es more : List Entry) (who circuit_ : ℕ) → NoneBy who more
+    → circuit (state_after f es).circuits circuit_ ≡ Taken who → circuit (state_after f (es ++ more)).circuits circuit_ ≡ Taken who

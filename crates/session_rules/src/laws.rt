@@ -1,5 +1,5 @@
 //! What follows from the rules, whatever is called: each function states a law, and does nothing.
-ghost use Rattle.session_rules.specs.Facts.{RefusalsChangeNothing, CallsKeep, HistoriesKeep, PartiesArePresent, CallsLeave, HistoriesLeave, KeysStay, FirstRoundsStay, TakenStays, IssueEnds, IssueIsItsMoves, MovesAreFew, SharesAreWanted, SharesAreCountedOnce, CompleteOnesLackNone};
+ghost use Rattle.session_rules.specs.Facts.{RefusalsChangeNothing, CallsKeep, HistoriesKeep, PartiesArePresent, CallsLeave, HistoriesLeave, KeysStay, FirstRoundsStay, TakenStays, IssueEnds, IssueIsItsMoves, MovesAreFew, SharesAreWanted, SharesAreCountedOnce, CompleteOnesLackNone, FewAreIssued, HistoriesIssueFew, LegalOnesGrow, NextState, BeginningsAreLegal, StatesLeadOn, LaterOnesFollow, TakenStaysOn};
 
 /// A reply that refuses goes with the state as it was.
 pub fn refusals()
@@ -41,5 +41,19 @@ pub fn shares()
     ensures wanted { SharesAreWanted }
     ensures once { SharesAreCountedOnce }
     ensures complete { CompleteOnesLackNone }
+{
+}
+
+/// A legal history goes on by any call with the reply that it has to have, each of its beginnings is
+/// legal, and what never changes stays to its end. Few instances are issued in it.
+pub fn histories()
+    ensures grow { LegalOnesGrow }
+    ensures next { NextState }
+    ensures beginnings { BeginningsAreLegal }
+    ensures states { StatesLeadOn }
+    ensures later { LaterOnesFollow }
+    ensures taken { TakenStaysOn }
+    ensures call_issues_few { FewAreIssued }
+    ensures few { HistoriesIssueFew }
 {
 }
