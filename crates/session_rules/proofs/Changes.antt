@@ -1,5 +1,5 @@
 -- What changes in a state, one change after the other: whatever each of them keeps, a call keeps.
-use Rattle.std.proofs.Common.{◌≡◌, ◌∙◌, sym, ap, refl, ℕ, zero, suc, ◌≤◌, Bool, true, false, not, nat_eq, cond, ◌||◌, ◌⊎◌, inl, inr, List, length, [], ◌∷◌, find, slice_index_or, Option, Some, None, true≢false}
+use Rattle.std.proofs.Common.{◌≡◌, refl, ℕ, zero, suc, Bool, true, false, not, nat_eq, cond, ◌⊎◌, inl, inr, List, length, [], ◌∷◌, find, slice_index_or, Option, Some, None}
 use Rattle.std.specs.List.{range_with_len}
 use Rattle.std.specs.Prelude.{if◌then◌else◌, ⊤}
 use Rattle.std.proofs.lemmas.Bool.{not-false, and_parts}
@@ -16,12 +16,12 @@ use Rattle.session_rules.specs.declared.call.Call.TheVariants as call
 use Rattle.session_rules.specs.declared.reply.Reply.{Reply}
 use Rattle.session_rules.specs.declared.reply.Reply.TheVariants as reply
 use Rattle.session_rules.specs.declared.state.CircuitState.{CircuitState}
-use Rattle.session_rules.specs.declared.state.CircuitState.TheVariants.{Refused, Idle, Taken, Evaluated, Answered}
+use Rattle.session_rules.specs.declared.state.CircuitState.TheVariants.{Idle, Taken, Evaluated}
 use Rattle.session_rules.specs.declared.moves.Move.{Move}
 use Rattle.session_rules.specs.declared.fixed.Fixed.{Fixed}
 use Rattle.session_rules.specs.States.{State, circuit, is_idle, is_taken_by, is_refused, is_given, plan, has_done}
 use Rattle.session_rules.specs.Issues.{next_move, instances_after, issued_in, issue, most_moves}
-use Rattle.session_rules.specs.Steps.{join, lose, after_loss, pending, brief, deliver, by_stage, accepted, counted, answered_by, input, is_input, with_input, take, next_ready, ready, with_circuit, finish, give_back, step}
+use Rattle.session_rules.specs.Steps.{join, lose, after_loss, deliver, by_stage, accepted, counted, answered_by, input, is_input, with_input, take, next_ready, ready, with_circuit, finish, give_back, step}
 
 -- the instances and circuits once a share is counted
 abbrev pub after_count : Instance → ℕ → State → State
@@ -64,9 +64,8 @@ Joins may _ = ⊤
 
 -- what each change keeps, all changes keep
 module _ (f : Fixed) (may : ℕ → Type 0) (caller : ℕ) (P : State → Type 0) (R : State → State → Type 0)
-  (reflexive : (s : State) → R s s) (transitive : (s t u : State) → R s t → R t u → R s u)
-  (one : (s t : State) → P s → Change may caller f s t → P t × R s t) where
-
+    (reflexive : (s : State) → R s s) (transitive : (s t u : State) → R s t → R t u → R s u)
+    (one : (s t : State) → P s → Change may caller f s t → P t × R s t) where
   abbrev Goes : State → State → Type 0
   Goes s t = P t × R s t
 
@@ -77,11 +76,13 @@ module _ (f : Fixed) (may : ℕ → Type 0) (caller : ℕ) (P : State → Type 0
   onward s t u g h = let k = h g.0 in (k.0, transitive s t u g.1 k.1)
 
   one_more : (n : ℕ) (s : State) → P s → ((t : State) → P t → Goes t (record t { instances = issued_in n f t.present t.instances t.circuits }))
-    → (o : Option Move) → next_move f s.present s.instances s.circuits ≡ o
-    → Goes s (record s { instances = elim o [
-      | None ↦ s.instances
-      | Some m ↦ issued_in n f s.present (instances_after s.instances m) s.circuits
-    ] })
+      → (o : Option Move) → next_move f s.present s.instances s.circuits ≡ o
+      → Goes s (record s {
+        instances = elim o [
+          | None ↦ s.instances
+          | Some m ↦ issued_in n f s.present (instances_after s.instances m) s.circuits
+        ];
+      })
   one_more n s h more None e = stays s h
   one_more n s h more (Some m) e =
       let t : State = record s { instances = instances_after s.instances m } in
@@ -136,8 +137,8 @@ module _ (f : Fixed) (may : ℕ → Type 0) (caller : ℕ) (P : State → Type 0
   by_stage_goes s id p rows i Complete e found member h = accepted_goes s id p rows i found member (rw e refl) h
 
   found_goes : (s : State) (id p rows : ℕ) (o : Option Instance) → instance s.instances id ≡ o → P s → Goes s (elim o as (λ x. Reply × State) [
-      | None ↦ (reply.Unknown (length s.instances), s)
-      | Some i ↦ if has i.set.bits p then by_stage f s i p rows i.stage else (reply.Stranger, s)
+    | None ↦ (reply.Unknown (length s.instances), s)
+    | Some i ↦ if has i.set.bits p then by_stage f s i p rows i.stage else (reply.Stranger, s)
   ]).1
   found_goes s id p rows None e h = stays s h
   found_goes s id p rows (Some i) e h =
@@ -158,8 +159,8 @@ module _ (f : Fixed) (may : ℕ → Type 0) (caller : ℕ) (P : State → Type 0
       (λ _. one s _ h (gives c k refl)))))
 
   ready_goes : (s : State) (o : Option ℕ) → next_ready f s ≡ o → P s → Goes s (elim o as (λ x. Reply × State) [
-      | None ↦ (reply.Nothing, s)
-      | Some c ↦ (reply.Job c, with_circuit s c (Taken caller))
+    | None ↦ (reply.Nothing, s)
+    | Some c ↦ (reply.Job c, with_circuit s c (Taken caller))
   ]).1
   unfolding next_ready ready
   ready_goes s None e h = stays s h

@@ -1,27 +1,24 @@
 -- What a share meets; and that keys and first rounds stay.
-use Rattle.std.proofs.Common.{◌≡◌, ◌≢◌, ◌∙◌, sym, ap, subst, refl, ℕ, ◌+◌, ◌<◌, ◌≤◌, Bool, true, false, not, nat_eq, ◌⊎◌, inl, inr, List, length, get_or, fold, Contains, Option, Some, None, arith}
+use Rattle.std.proofs.Common.{◌≡◌, ◌∙◌, sym, subst, refl, ℕ, ◌<◌, true, false, length, get_or, Contains, Option, Some, None, arith}
 use Rattle.std.specs.Prelude.{if◌then◌else◌}
-use Rattle.std.proofs.lemmas.Bool.{both_ways, eq-eqb}
+use Rattle.std.proofs.lemmas.Bool.{eq-eqb}
 use Rattle.std.proofs.lemmas.List.Elements.{Contains-get_or}
 use Rattle.share_spec.specs.Sets.{has}
 use Rattle.proto_names.specs.Names.{rows_of, is_void}
 use Rattle.proto_names.specs.Instances.{instance, is_done}
-use Rattle.proto_names.specs.declared.signature.Signature.{Signature}
-use Rattle.proto_names.specs.declared.signature.Signature.TheVariants.{Rlk1, Rlk2}
 use Rattle.proto_names.specs.declared.instance.Instance.{Instance}
 use Rattle.proto_names.specs.declared.instance.Stage.{Stage}
 use Rattle.proto_names.specs.declared.instance.Stage.TheVariants.{Opened, Complete, Void}
-use Rattle.session_rules.specs.declared.call.Entry.{Entry}
 use Rattle.session_rules.specs.declared.reply.Reply.{Reply}
 use Rattle.session_rules.specs.declared.reply.Reply.TheVariants as reply
 use Rattle.session_rules.specs.declared.fixed.Fixed.{Fixed}
 use Rattle.session_rules.specs.States.{State, has_done}
-use Rattle.session_rules.specs.Issues.{issue, issued_in, moves, moves_in, most_moves, instances_after}
+use Rattle.session_rules.specs.Issues.{issue, moves, most_moves}
 use Rattle.session_rules.specs.Steps.{deliver, by_stage, accepted, counted}
 use Rattle.session_rules.specs.Histories.{after}
-use Rattle.session_rules.specs.Facts.{IsLive, IsSameLater, Kept, IsLater, TakesPart, IsFirstAt, SharesAreWanted, SharesAreCountedOnce, CompleteOnesLackNone, KeysStay, FirstRoundsStay, IssueIsItsMoves, MovesAreFew}
+use Rattle.session_rules.specs.Facts.{IsLive, IsSameLater, TakesPart, SharesAreWanted, SharesAreCountedOnce, CompleteOnesLackNone, KeysStay, FirstRoundsStay, IssueIsItsMoves, MovesAreFew}
 use Rattle.session_rules.proofs.Contained.{any_true, any_from}
-use Rattle.session_rules.proofs.Marks.{IsDone, done_is, done_from, instance_within, one_number, live_cases, complete_lives}
+use Rattle.session_rules.proofs.Marks.{IsDone, done_is, done_from, instance_within, one_number, complete_lives}
 use Rattle.session_rules.proofs.PartySets.{nobody_outside}
 use Rattle.session_rules.proofs.Shares.{lacking_opened}
 use Rattle.session_rules.proofs.Keeps.{after_next}
@@ -54,9 +51,10 @@ unfolding accepted
 right_length f s i p unsent = rw (unsent, eq-eqb (rows_of i.signature f.rows) (rows_of i.signature f.rows) refl) refl
 
 pub shares_are_wanted : SharesAreWanted
-shares_are_wanted f s id p i k t unsent =
-    (lacking_opened f s.present i p (k.sound i (instance_within s.instances id i t.issued)) t.lives t.member unsent,
-    delivered f s id p (rows_of i.signature f.rows) i t ∙ right_length f s i p unsent)
+shares_are_wanted f s id p i k t unsent = (
+  lacking_opened f s.present i p (k.sound i (instance_within s.instances id i t.issued)) t.lives t.member unsent,
+  delivered f s id p (rows_of i.signature f.rows) i t ∙ right_length f s i p unsent,
+)
 
 repeated : (f : Fixed) (s : State) (i : Instance) (p rows : ℕ) → has i.sent.bits p ≡ true → accepted f s i p rows ≡ (reply.Repeat, s)
 unfolding accepted

@@ -1,37 +1,33 @@
 -- Each change keeps what holds, and changes nothing that never changes.
-use Rattle.std.proofs.Common.{◌≡◌, ◌≢◌, ◌∙◌, sym, ap, subst, refl, ℕ, zero, suc, ◌+◌, ◌<◌, ◌≤◌, ◌^◌, Bool, true, false, ◌⊎◌, inl, inr, List, [], ◌∷◌, length, map, get_or, set, Contains, Option, Some, None, arith, length-set}
+use Rattle.std.proofs.Common.{◌≡◌, ◌∙◌, sym, subst, refl, ℕ, true, false, inl, inr, List, [], ◌∷◌, set, Some, arith, length-set}
 use Rattle.std.specs.Prelude.{⊤}
 use Rattle.std.proofs.lemmas.Bool.{both_ways, cases_eq}
 use Rattle.std.proofs.lemmas.List.{get_or-set_other, length-map}
-use Rattle.share_spec.specs.Sets.{has, count}
+use Rattle.share_spec.specs.Sets.{has}
 use Rattle.proto_names.specs.Names.{is_void}
-use Rattle.proto_names.specs.Groups.{with_party, without_party, least_of, first_outside}
-use Rattle.proto_names.specs.Instances.{instance, after_share, after_void, fresh, with_fresh}
-use Rattle.proto_names.specs.declared.signature.Signature.{Signature}
-use Rattle.proto_names.specs.declared.signature.Signature.TheVariants.{Rlk1, Rlk2, Dec}
-use Rattle.proto_names.specs.declared.sets.PartySet.{PartySet}
+use Rattle.proto_names.specs.Groups.{with_party, without_party}
+use Rattle.proto_names.specs.Instances.{instance, after_share, after_void, fresh}
+use Rattle.proto_names.specs.declared.signature.Signature.TheVariants.{Rlk2}
 use Rattle.proto_names.specs.declared.instance.Instance.{Instance}
-use Rattle.proto_names.specs.declared.instance.Stage.TheVariants.{Opened, Complete}
 use Rattle.session_rules.specs.declared.call.Call.{Call}
 use Rattle.session_rules.specs.declared.call.Call.TheVariants as call
 use Rattle.session_rules.specs.declared.call.Entry.{Entry}
 use Rattle.session_rules.specs.declared.state.CircuitState.{CircuitState}
 use Rattle.session_rules.specs.declared.state.CircuitState.TheVariants.{Refused, Idle, Taken, Evaluated, Answered}
 use Rattle.session_rules.specs.declared.moves.Move.{Move}
-use Rattle.session_rules.specs.declared.moves.Move.TheVariants.{GiveUp, Issue}
 use Rattle.session_rules.specs.declared.fixed.Fixed.{Fixed}
-use Rattle.session_rules.specs.States.{State, circuit, is_refused, has_live, opening, none_given, opening_of}
+use Rattle.session_rules.specs.States.{State, circuit, is_refused, opening, none_given, opening_of}
 use Rattle.session_rules.specs.Issues.{next_move, instances_after, least_present}
-use Rattle.session_rules.specs.Steps.{after_loss, with_input, with_circuit, answered_by, step}
+use Rattle.session_rules.specs.Steps.{after_loss, with_input, with_circuit, step}
 use Rattle.session_rules.specs.Histories.{after, state_after}
-use Rattle.session_rules.specs.Facts.{is_settled, CallsKeep, HistoriesKeep, CallsLeave, HistoriesLeave, IsLive, IsSound, Decrypts, HasFirst, Kept, IsLater}
+use Rattle.session_rules.specs.Facts.{is_settled, CallsKeep, HistoriesKeep, CallsLeave, HistoriesLeave, IsSound, Decrypts, Kept, IsLater}
 use Rattle.session_rules.proofs.Changes.{Change, joins, loses, counts, gives, turns, moves, MayTurn, Joins, after_count, step_goes}
 use Rattle.session_rules.proofs.Contained.{contains_nil}
-use Rattle.session_rules.proofs.Marks.{IsDone, instance_within}
+use Rattle.session_rules.proofs.Marks.{instance_within}
 use Rattle.session_rules.proofs.PartySets.{has_party, with_keeps, none_outside, least_is, least_within, least_count}
-use Rattle.session_rules.proofs.MoveKinds.{MoveIs, gives_up, second, other, move_is, IsNeeded}
+use Rattle.session_rules.proofs.MoveKinds.{MoveIs, gives_up, second, other, move_is}
 use Rattle.session_rules.proofs.Needs.{needed_evaluated}
-use Rattle.session_rules.proofs.Later.{AreLater, all_reflexive, map_later, push_later, StayAdmitted, circuits_reflexive, set_admitted, given_stays, state_later, later_reflexive, later_transitive}
+use Rattle.session_rules.proofs.Later.{AreLater, all_reflexive, map_later, push_later, circuits_reflexive, set_admitted, given_stays, state_later, later_reflexive, later_transitive}
 use Rattle.session_rules.proofs.Ordered.{Ordered, ordered_in, kept_by, issue_ordered}
 use Rattle.session_rules.proofs.Losses.{give_up_later, give_up_ordered, loss_later, loss_ordered}
 use Rattle.session_rules.proofs.Shares.{lacking_opened, counted_circuits, share_all_later, share_ordered, share_admitted}
@@ -44,25 +40,32 @@ Next f s t = Kept f t × IsLater s t
 
 joined_sound : (f : Fixed) (present p : ℕ) (i : Instance) → IsSound f present i → IsSound f (with_party present p) i
 joined_sound f present p i s = record {
-  set = s.set; parties = s.parties; sent = s.sent; senders = s.senders; complete = s.complete; opened = s.opened;
+  set = s.set;
+  parties = s.parties;
+  sent = s.sent;
+  senders = s.senders;
+  complete = s.complete;
+  opened = s.opened;
   awaited = λ e q h n. with_keeps present p q (s.awaited e q h n);
 }
 
 join_next : (f : Fixed) (s : State) (p : ℕ) → Kept f s → Next f s (record s { present = with_party s.present p })
 join_next f s p k =
-    let t : State = record s { present = with_party s.present p } in
-    (kept_by f t k.circuits k.given
-    (record { numbered = k.numbered; one = k.one; sound = λ i m. joined_sound f s.present p i (k.sound i m); decrypts = k.decrypts; rounds = k.rounds }),
-    state_later s t (all_reflexive s.instances) (λ c k e. e) (circuits_reflexive s.circuits))
+    let t : State = record s { present = with_party s.present p } in (
+      kept_by f t k.circuits k.given
+          (record { numbered = k.numbered; one = k.one; sound = λ i m. joined_sound f s.present p i (k.sound i m); decrypts = k.decrypts; rounds = k.rounds }),
+      state_later s t (all_reflexive s.instances) (λ c k e. e) (circuits_reflexive s.circuits),
+    )
 
 lose_next : (f : Fixed) (s : State) (p : ℕ) → has s.present p ≡ true → Kept f s → Next f s (record s { present = without_party s.present p; instances = after_loss p s.instances })
 unfolding after_loss
 lose_next f s p h k =
     let t : State = record s { present = without_party s.present p; instances = after_loss p s.instances } in
     let range = has_party s.present p h in
-    let o = ordered_in f s k in
-    (kept_by f t k.circuits k.given (loss_ordered f s.present s.circuits s.instances o p range.0 range.1),
-    state_later s t (map_later _ s.instances (loss_later f s.present s.circuits s.instances o p)) (λ c k e. e) (circuits_reflexive s.circuits))
+    let o = ordered_in f s k in (
+      kept_by f t k.circuits k.given (loss_ordered f s.present s.circuits s.instances o p range.0 range.1),
+      state_later s t (map_later _ s.instances (loss_later f s.present s.circuits s.instances o p)) (λ c k e. e) (circuits_reflexive s.circuits),
+    )
 
 -- ---- a share is counted
 
@@ -73,17 +76,19 @@ count_next f s id p i found member alive unsent k =
     let o = ordered_in f s k in
     let m = instance_within s.instances id i found in
     let opened = lacking_opened f s.present i p (k.sound i m) alive member unsent in
-    let admitted = share_admitted f s.present s.circuits s.instances o i p m opened member unsent in
-    (kept_by f t (admitted.length ∙ k.circuits) k.given (share_ordered f s.present s.circuits s.instances o i p m opened member unsent),
-    state_later s t (map_later _ s.instances (share_all_later f s.present s.circuits s.instances o i p m opened member unsent)) (λ c k e. e) admitted)
+    let admitted = share_admitted f s.present s.circuits s.instances o i p m opened member unsent in (
+      kept_by f t (admitted.length ∙ k.circuits) k.given (share_ordered f s.present s.circuits s.instances o i p m opened member unsent),
+      state_later s t (map_later _ s.instances (share_all_later f s.present s.circuits s.instances o i p m opened member unsent)) (λ c k e. e) admitted,
+    )
 
 -- ---- an input is given; a circuit is taken, evaluated, or given back
 
 give_next : (f : Fixed) (s : State) (c k : ℕ) → Kept f s → Next f s (record s { given = with_input s.given c k })
 give_next f s c k h =
-    let t : State = record s { given = with_input s.given c k } in
-    (kept_by f t h.circuits (length-set s.given c _ ∙ h.given) (ordered_in f s h),
-    state_later s t (all_reflexive s.instances) (λ d j e. given_stays s.given c k d j e) (circuits_reflexive s.circuits))
+    let t : State = record s { given = with_input s.given c k } in (
+      kept_by f t h.circuits (length-set s.given c _ ∙ h.given) (ordered_in f s h),
+      state_later s t (all_reflexive s.instances) (λ d j e. given_stays s.given c k d j e) (circuits_reflexive s.circuits),
+    )
 
 -- a circuit that may be changed is idle or taken
 record IsOpen (now : CircuitState) : Type 0 where
@@ -116,11 +121,12 @@ turn_decrypts circuits c now i free d = record {
 turn_next : (f : Fixed) (s : State) (caller c : ℕ) (now : CircuitState) → MayTurn caller (circuit s.circuits c) → is_refused now ≡ false → Kept f s → Next f s (with_circuit s c now)
 turn_next f s caller c now may admitted k =
     let was = open_is caller (circuit s.circuits c) may in
-    let t : State = with_circuit s c now in
-    (kept_by f t (length-set s.circuits c now ∙ k.circuits) k.given
-    (record { numbered = k.numbered; one = k.one; sound = k.sound; decrypts = λ i m. turn_decrypts s.circuits c now i was.unsettled (k.decrypts i m); rounds = k.rounds }),
-    state_later s t (all_reflexive s.instances) (λ c k e. e) (set_admitted s.circuits c now was.admitted admitted
-    (λ e. absurd (both_ways (is_settled (circuit s.circuits c)) was.unsettled e)) (λ e. absurd (both_ways (is_settled (circuit s.circuits c)) was.unsettled (rw e refl)))))
+    let t : State = with_circuit s c now in (
+      kept_by f t (length-set s.circuits c now ∙ k.circuits) k.given
+          (record { numbered = k.numbered; one = k.one; sound = k.sound; decrypts = λ i m. turn_decrypts s.circuits c now i was.unsettled (k.decrypts i m); rounds = k.rounds }),
+      state_later s t (all_reflexive s.instances) (λ c k e. e) (set_admitted s.circuits c now was.admitted admitted
+          (λ e. absurd (both_ways (is_settled (circuit s.circuits c)) was.unsettled e)) (λ e. absurd (both_ways (is_settled (circuit s.circuits c)) was.unsettled (rw e refl)))),
+    )
 
 -- ---- a move
 
@@ -146,9 +152,10 @@ move_next : (f : Fixed) (s : State) (m : Move) → next_move f s.present s.insta
 move_next f s m e k =
     let t : State = record s { instances = instances_after s.instances m } in
     let o = ordered_in f s k in
-    let is = move_is f s.present s.instances s.circuits m e in
-    (kept_by f t k.circuits k.given (move_ordered f s.present s.instances s.circuits m o is),
-    state_later s t (move_later f s.present s.instances s.circuits m o is) (λ c k e. e) (circuits_reflexive s.circuits))
+    let is = move_is f s.present s.instances s.circuits m e in (
+      kept_by f t k.circuits k.given (move_ordered f s.present s.instances s.circuits m o is),
+      state_later s t (move_later f s.present s.instances s.circuits m o is) (λ c k e. e) (circuits_reflexive s.circuits),
+    )
 
 -- ---- any change, any call, any list of calls
 

@@ -1,22 +1,19 @@
 -- What never changes: each change of an instance, and of a state, leaves it.
-use Rattle.std.proofs.Common.{◌≡◌, ◌≢◌, ◌∙◌, sym, ap, subst, refl, ℕ, zero, suc, ◌+◌, ◌<◌, ◌≤◌, Bool, true, false, nat_eq, cond, ◌⊎◌, inl, inr, List, [], ◌∷◌, ◌++◌, length, map, get_or, set, Contains, Option, Some, None, arith, length-set}
+use Rattle.std.proofs.Common.{◌≡◌, ◌∙◌, sym, subst, refl, ℕ, ◌<◌, ◌≤◌, Bool, true, false, ◌⊎◌, inl, inr, List, [], ◌∷◌, ◌++◌, length, map, get_or, set, Contains, arith, length-set}
 use Rattle.std.specs.Prelude.{if◌then◌else◌}
-use Rattle.std.proofs.lemmas.Bool.{eqb-true, both_ways, cases_Bool, cases_eq, cases_lt}
-use Rattle.std.proofs.lemmas.List.{get_or-map, get_or_append_left, get_or_default, get_or-set_same, get_or-set_other, set_past, length-map, length-append}
+use Rattle.std.proofs.lemmas.Bool.{both_ways, cases_eq, cases_lt}
+use Rattle.std.proofs.lemmas.List.{get_or-map, get_or_append_left, get_or-set_same, get_or-set_other, set_past, length-map, length-append}
 use Rattle.std.proofs.lemmas.List.Elements.{Contains-get_or}
-use Rattle.share_spec.specs.Sets.{has}
 use Rattle.proto_names.specs.Names.{is_void}
-use Rattle.proto_names.specs.Groups.{with_party}
-use Rattle.proto_names.specs.Instances.{missing, with_share, counted_at, given_up, after_share, after_void}
-use Rattle.proto_names.specs.declared.signature.Signature.{Signature}
-use Rattle.proto_names.specs.declared.signature.Signature.TheVariants.{Pk, Rlk1, Rlk2, Rot, Dec}
+use Rattle.proto_names.specs.Instances.{with_share}
+use Rattle.proto_names.specs.declared.signature.Signature.TheVariants.{Rlk1}
 use Rattle.proto_names.specs.declared.instance.Instance.{Instance}
 use Rattle.proto_names.specs.declared.instance.Stage.{Stage}
 use Rattle.proto_names.specs.declared.instance.Stage.TheVariants.{Opened, Complete, Void}
 use Rattle.session_rules.specs.declared.state.CircuitState.{CircuitState}
 use Rattle.session_rules.specs.declared.state.CircuitState.TheVariants.{Answered}
 use Rattle.session_rules.specs.States.{State, circuit, is_given, is_refused}
-use Rattle.session_rules.specs.Steps.{with_input, fallen, falls, answered_by}
+use Rattle.session_rules.specs.Steps.{with_input}
 use Rattle.session_rules.specs.Facts.{IsLive, IsSameLater, IsLater, is_settled}
 use Rattle.session_rules.proofs.Marks.{IsDone}
 use Rattle.session_rules.proofs.PartySets.{with_keeps}
@@ -25,7 +22,11 @@ use Rattle.session_rules.proofs.PartySets.{with_keeps}
 
 pub same_reflexive : (a : Instance) → IsSameLater a a
 same_reflexive a = record {
-  id = refl; signature = refl; set = refl; attempt = refl; round1 = refl;
+  id = refl;
+  signature = refl;
+  set = refl;
+  attempt = refl;
+  round1 = refl;
   sent = λ p h. h;
   closed = λ n. refl;
   opened = λ e. e;
@@ -35,7 +36,11 @@ same_reflexive a = record {
 
 pub same_transitive : (a b c : Instance) → IsSameLater a b → IsSameLater b c → IsSameLater a c
 same_transitive a b c x y = record {
-  id = y.id ∙ x.id; signature = y.signature ∙ x.signature; set = y.set ∙ x.set; attempt = y.attempt ∙ x.attempt; round1 = y.round1 ∙ x.round1;
+  id = y.id ∙ x.id;
+  signature = y.signature ∙ x.signature;
+  set = y.set ∙ x.set;
+  attempt = y.attempt ∙ x.attempt;
+  round1 = y.round1 ∙ x.round1;
   sent = λ p h. y.sent p (x.sent p h);
   closed = λ n. y.closed (λ e. n (x.opened e)) ∙ x.closed n;
   opened = λ e. x.opened (y.opened e);
@@ -55,7 +60,11 @@ later_lives a b l h = at a.stage refl
 -- it is given up where it was opened, or a complete first round
 pub void_later : (a : Instance) (by : ℕ) → (a.stage ≡ Opened) ⊎ IsDone Rlk1 a → IsSameLater a (record a { stage = Void by })
 void_later a by (inl opened) = record {
-  id = refl; signature = refl; set = refl; attempt = refl; round1 = refl;
+  id = refl;
+  signature = refl;
+  set = refl;
+  attempt = refl;
+  round1 = refl;
   sent = λ p h. h;
   closed = λ n. refl;
   opened = λ e. opened;
@@ -63,7 +72,11 @@ void_later a by (inl opened) = record {
   complete = λ n e. cc;
 }
 void_later a by (inr done) = record {
-  id = refl; signature = refl; set = refl; attempt = refl; round1 = refl;
+  id = refl;
+  signature = refl;
+  set = refl;
+  attempt = refl;
+  round1 = refl;
   sent = λ p h. h;
   closed = λ n. refl;
   opened = λ e. cc;
@@ -74,7 +87,11 @@ void_later a by (inr done) = record {
 pub share_later : (a : Instance) (p : ℕ) → a.stage ≡ Opened → IsSameLater a (with_share p a)
 unfolding with_share
 share_later a p opened = record {
-  id = refl; signature = refl; set = refl; attempt = refl; round1 = refl;
+  id = refl;
+  signature = refl;
+  set = refl;
+  attempt = refl;
+  round1 = refl;
   sent = λ q h. with_keeps a.sent.bits p q h;
   closed = λ n. absurd (n opened);
   opened = λ e. opened;
@@ -177,8 +194,14 @@ given_stays given c k d j e = elim (cases_eq d c) [
 
 pub state_later : (before now : State) → AreLater before.instances now.instances → ((c k : ℕ) → is_given before c k ≡ true → is_given now c k ≡ true) → StayAdmitted before.circuits now.circuits → IsLater before now
 state_later before now is given circuits = record {
-  issued = is.issued; same = is.same; given = given;
-  circuits = circuits.length; refused = circuits.refused; admitted = circuits.admitted; evaluated = circuits.evaluated; answered = circuits.answered;
+  issued = is.issued;
+  same = is.same;
+  given = given;
+  circuits = circuits.length;
+  refused = circuits.refused;
+  admitted = circuits.admitted;
+  evaluated = circuits.evaluated;
+  answered = circuits.answered;
 }
 
 pub later_reflexive : (s : State) → IsLater s s

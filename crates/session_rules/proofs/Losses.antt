@@ -1,35 +1,34 @@
 -- What a loss, a share and a given-up first round do to the facts about instances.
-use Rattle.std.proofs.Common.{◌≡◌, ◌≢◌, ◌∙◌, sym, ap, subst, refl, ℕ, zero, suc, ◌+◌, ◌-◌, ◌<◌, ◌≤◌, ◌^◌, Bool, true, false, not, nat_eq, ◌&&◌, ◌||◌, cond, ◌⊎◌, inl, inr, List, [], ◌∷◌, length, map, get_or, set, Contains, arith}
+use Rattle.std.proofs.Common.{◌≡◌, ◌∙◌, sym, subst, refl, ℕ, ◌≤◌, Bool, true, false, nat_eq, ◌&&◌, ◌⊎◌, inl, inr, List, Contains}
 use Rattle.std.specs.Prelude.{if◌then◌else◌}
 use Rattle.std.specs.List.{list_any}
-use Rattle.std.proofs.lemmas.Bool.{both_ways, cases_Bool, cases_eq, eqb-true, eqb-false, eq-eqb, ne_eqb, and_parts, and_from, or_cases, or_parts, or_left, or_from, false_from_ne_true}
-use Rattle.std.proofs.lemmas.List.{get_or-set_other}
+use Rattle.std.proofs.lemmas.Bool.{both_ways, eqb-true, and_parts, or_cases, or_left, or_from, false_from_ne_true}
 use Rattle.share_spec.specs.Sets.{has}
-use Rattle.proto_names.specs.Names.{same, is_void, is_opened}
-use Rattle.proto_names.specs.Groups.{with_party, without_party, number_outside}
-use Rattle.proto_names.specs.Instances.{lacks, missing, with_share, counted_at, after_share, given_up, after_void}
-use Rattle.proto_names.specs.declared.signature.Signature.{Signature}
-use Rattle.proto_names.specs.declared.signature.Signature.TheVariants.{Pk, Rlk1, Rlk2, Rot, Dec}
+use Rattle.proto_names.specs.Names.{same}
+use Rattle.proto_names.specs.Groups.{without_party}
+use Rattle.proto_names.specs.Instances.{lacks, given_up, after_void}
+use Rattle.proto_names.specs.declared.signature.Signature.TheVariants.{Rlk1, Rlk2}
 use Rattle.proto_names.specs.declared.instance.Instance.{Instance}
-use Rattle.proto_names.specs.declared.instance.Stage.{Stage}
 use Rattle.proto_names.specs.declared.instance.Stage.TheVariants.{Opened, Complete, Void}
 use Rattle.session_rules.specs.declared.state.CircuitState.{CircuitState}
-use Rattle.session_rules.specs.declared.state.CircuitState.TheVariants.{Evaluated, Answered}
 use Rattle.session_rules.specs.declared.fixed.Fixed.{Fixed}
-use Rattle.session_rules.specs.States.{circuit, is_refused, has_live}
-use Rattle.session_rules.specs.Steps.{lacks_for, falls, fallen, after_loss, answered_by}
-use Rattle.session_rules.specs.Facts.{IsLive, IsSameLater, IsSound, Decrypts, HasFirst}
-use Rattle.session_rules.proofs.Contained.{any_true, any_from, any_none}
-use Rattle.session_rules.proofs.Marks.{IsDone, Lacks, lacks_is, lacks_from, one_number, same_is, none_lives, opened_lives, complete_lives, live_cases}
-use Rattle.session_rules.proofs.PartySets.{has_party, with_keeps, with_cases, with_small, without_keeps, nobody_outside}
-use Rattle.session_rules.proofs.Later.{void_later, share_later, where_so, same_reflexive, later_lives, StayAdmitted, circuits_reflexive, set_admitted, circuit_set}
+use Rattle.session_rules.specs.States.{has_live}
+use Rattle.session_rules.specs.Steps.{lacks_for, falls, fallen, after_loss}
+use Rattle.session_rules.specs.Facts.{IsLive, IsSameLater, IsSound, Decrypts}
+use Rattle.session_rules.proofs.Contained.{any_true}
+use Rattle.session_rules.proofs.Marks.{IsDone, Lacks, lacks_is, lacks_from, one_number, same_is, none_lives, opened_lives}
+use Rattle.session_rules.proofs.PartySets.{without_keeps}
+use Rattle.session_rules.proofs.Later.{void_later, where_so, later_lives}
 use Rattle.session_rules.proofs.Ordered.{Ordered, numbered_map, one_map, each_map, rounds_map}
 
 -- ---- a void one
 
 void_sound : (f : Fixed) (before now : ℕ) (a : Instance) (by : ℕ) → IsSound f before a → IsSound f now (record a { stage = Void by })
 void_sound f before now a by s = record {
-  set = s.set; parties = s.parties; sent = s.sent; senders = s.senders;
+  set = s.set;
+  parties = s.parties;
+  sent = s.sent;
+  senders = s.senders;
   complete = λ e. cc;
   opened = λ l e. cc;
   awaited = λ e p h n. cc;
@@ -61,17 +60,16 @@ give_up_ordered is i by f present circuits o within done none =
       numbered = numbered_map g is later o.numbered;
       one = one_map g is later o.one;
       sound = each_map g is (λ a. IsSound f present a) (λ a. IsSound f present a)
-        (λ a m s. either_one (λ b. IsSound f present b) (nat_eq a.id i.id) (record a { stage = Void by }) a (λ e. void_sound f present present a by s) (λ e. s)) o.sound;
+          (λ a m s. either_one (λ b. IsSound f present b) (nat_eq a.id i.id) (record a { stage = Void by }) a (λ e. void_sound f present present a by s) (λ e. s)) o.sound;
       decrypts = each_map g is (λ a. Decrypts circuits a) (λ a. Decrypts circuits a)
-        (λ a m s. either_one (λ b. Decrypts circuits b) (nat_eq a.id i.id) (record a { stage = Void by }) a (λ e. void_decrypts circuits a by) (λ e. s)) o.decrypts;
+          (λ a m s. either_one (λ b. Decrypts circuits b) (nat_eq a.id i.id) (record a { stage = Void by }) a (λ e. void_decrypts circuits a by) (λ e. s)) o.decrypts;
       rounds = rounds_map g is later
-        (λ a first m second alive n d e. absurd (none_lives Rlk2 is a none m second (later_lives a (g a) (later a m) alive))) o.rounds;
+          (λ a first m second alive n d e. absurd (none_lives Rlk2 is a none m second (later_lives a (g a) (later a m) alive))) o.rounds;
     }
 
 -- ---- a party is lost
 
 module _ (f : Fixed) (present : ℕ) (circuits : List CircuitState) (is : List Instance) (o : Ordered f present circuits is) (p : ℕ) where
-
   -- the opened second round of a first one, which lacks the share of the lost party
   record Waits (first : Instance) : Type 0 where
     second : Instance
@@ -121,11 +119,11 @@ module _ (f : Fixed) (present : ℕ) (circuits : List CircuitState) (is : List I
       or_from (lacks p first) (list_any (lacks_for p first.id) is)
       (false_from_ne_true (lacks p first) (λ l. let x = (lacks_is p first l).opened in let y = done.complete in cc))
       (false_from_ne_true (list_any (lacks_for p first.id) is) (λ l.
-        let w = waits_is first l in
-        let living : IsLive a = later_lives a (fallen p is a) (loss_later a m) alive in
-        let ids : w.second.id ≡ a.id = o.one w.second a w.within m (w.signature ∙ sym second) (opened_lives w.second w.waits.opened) living in
-        let it : w.second ≡ a = one_number is w.second a o.numbered w.within m ids in
-        both_ways (falls p is a) (stands a alive) (falls_by a (subst (λ (z : Instance). Lacks p z) it w.waits))))
+      let w = waits_is first l in
+      let living : IsLive a = later_lives a (fallen p is a) (loss_later a m) alive in
+      let ids : w.second.id ≡ a.id = o.one w.second a w.within m (w.signature ∙ sym second) (opened_lives w.second w.waits.opened) living in
+      let it : w.second ≡ a = one_number is w.second a o.numbered w.within m ids in
+      both_ways (falls p is a) (stands a alive) (falls_by a (subst (λ (z : Instance). Lacks p z) it w.waits))))
 
   first_complete : (a first : Instance) → Contains is a → a.signature ≡ Rlk2 → IsLive (fallen p is a) → Contains is first → IsDone Rlk1 first → first.id ≡ a.round1 → (fallen p is first).stage ≡ Complete
   first_complete a first m second alive n done e = rw (first_stands a first m second alive n done e) done.complete
@@ -134,14 +132,19 @@ module _ (f : Fixed) (present : ℕ) (circuits : List CircuitState) (is : List I
   loss_sound a m first last s = either_one (λ b. IsSound f (without_party present p) b) (falls p is a) (record a { stage = Void p }) a
       (λ e. void_sound f present (without_party present p) a p s)
       (λ e. record {
-        set = s.set; parties = s.parties; sent = s.sent; senders = s.senders; complete = s.complete; opened = s.opened;
+        set = s.set;
+        parties = s.parties;
+        sent = s.sent;
+        senders = s.senders;
+        complete = s.complete;
+        opened = s.opened;
         awaited = λ opened q member unsent. without_keeps present p q first last
-          (λ same_party. both_ways (falls p is a) e (falls_by a (record {
-            opened = opened;
-            member = subst (λ (z : ℕ). has a.set.bits z ≡ true) same_party member;
-            unsent = subst (λ (z : ℕ). has a.sent.bits z ≡ false) same_party unsent;
-          })))
-          (s.awaited opened q member unsent);
+            (λ same_party. both_ways (falls p is a) e (falls_by a (record {
+              opened = opened;
+              member = subst (λ (z : ℕ). has a.set.bits z ≡ true) same_party member;
+              unsent = subst (λ (z : ℕ). has a.sent.bits z ≡ false) same_party unsent;
+            })))
+            (s.awaited opened q member unsent);
       })
 
   loss_decrypts : (a : Instance) → Decrypts circuits a → Decrypts circuits (fallen p is a)

@@ -1,20 +1,20 @@
 -- Signatures, stages, and the instance with a number.
-use Rattle.std.proofs.Common.{◌≡◌, ◌∙◌, sym, ap, ap₂, subst, refl, ℕ, zero, suc, ◌+◌, ◌-◌, ◌<◌, ◌≤◌, Bool, true, false, not, nat_eq, ◌&&◌, cond, ◌⊎◌, inl, inr, List, [], ◌∷◌, length, get_or, Contains, Option, Some, None, arith}
-use Rattle.std.specs.List.{slice_get, list_any}
-use Rattle.std.proofs.lemmas.Bool.{and_parts, and_from, eqb-true, eq-eqb, both_ways, cases_Bool, cases_eq, not_from_false, not-true}
+use Rattle.std.proofs.Common.{◌≡◌, ◌∙◌, sym, ap, ap₂, refl, ℕ, zero, suc, ◌+◌, ◌-◌, Bool, true, false, not, nat_eq, ◌&&◌, cond, ◌⊎◌, inl, inr, List, get_or, Contains, Some, None, arith}
+use Rattle.std.specs.List.{slice_get}
+use Rattle.std.proofs.lemmas.Bool.{and_parts, and_from, eqb-true, eq-eqb, both_ways, not_from_false, not-true}
 use Rattle.std.proofs.lemmas.List.{get_or_default}
 use Rattle.std.proofs.lemmas.Option.{slice_get_within, get_or_from_slice_get}
 use Rattle.proto_names.specs.Names.{same, kind, subject, is_opened, is_complete, is_void}
-use Rattle.proto_names.specs.Instances.{instance, is_of, lives, is_done, lacks}
+use Rattle.proto_names.specs.Instances.{instance, lives, is_done, lacks}
 use Rattle.share_spec.specs.Sets.{has}
 use Rattle.proto_names.specs.declared.signature.Signature.{Signature}
 use Rattle.proto_names.specs.declared.signature.Signature.TheVariants.{Pk, Rlk1, Rlk2, Rot, Dec}
 use Rattle.proto_names.specs.declared.instance.Instance.{Instance}
 use Rattle.proto_names.specs.declared.instance.Stage.{Stage}
 use Rattle.proto_names.specs.declared.instance.Stage.TheVariants.{Opened, Complete, Void}
-use Rattle.session_rules.specs.States.{has_live, has_done}
+use Rattle.session_rules.specs.States.{has_live}
 use Rattle.session_rules.specs.Facts.{IsLive, Numbered}
-use Rattle.session_rules.proofs.Contained.{any_false, any_from, none_from_find, find_some}
+use Rattle.session_rules.proofs.Contained.{any_false}
 
 -- ---- signatures
 

@@ -1,9 +1,9 @@
 -- What each move of the rules of issue is, and when it is made.
-use Rattle.std.proofs.Common.{◌≡◌, ◌≢◌, ◌∙◌, sym, ap, subst, refl, ℕ, ◌≤◌, Bool, true, false, not, ◌&&◌, cond, ◌⊎◌, inl, inr, List, length, find, Contains, Option, Some, None, arith}
+use Rattle.std.proofs.Common.{◌≡◌, ◌≢◌, sym, subst, refl, ℕ, ◌≤◌, Bool, true, false, not, cond, ◌⊎◌, inl, inr, List, length, find, Contains, Option, Some, None}
 use Rattle.std.specs.Prelude.{if◌then◌else◌, nat_le}
 use Rattle.std.specs.List.{range_with_len}
 use Rattle.std.specs.Option.{option_map, option_or, option_and_then}
-use Rattle.std.proofs.lemmas.Bool.{and_parts, leb-true, both_ways, cases_Bool, not-true}
+use Rattle.std.proofs.lemmas.Bool.{and_parts, leb-true, both_ways, not-true}
 use Rattle.share_spec.specs.Sets.{count}
 use Rattle.proto_names.specs.Names.{same}
 use Rattle.proto_names.specs.Instances.{is_done}
@@ -132,7 +132,7 @@ unfolding issued_as condition enough
 issued_is f present is circuits σ m idle n e = at (same σ Rlk2) refl (n.stands) e
   where
     at : (b : Bool) → same σ Rlk2 ≡ b → cond b (has_done Rlk1 is) (nat_le f.threshold (count present)) ≡ true
-      → (if b then option_map second_round (find (is_done Rlk1) is) else Some (Issue σ (least_present f present) 0)) ≡ Some m → MoveIs f present is circuits m
+        → (if b then option_map second_round (find (is_done Rlk1) is) else Some (Issue σ (least_present f present) 0)) ≡ Some m → MoveIs f present is circuits m
     at true h stands e =
         let second : σ ≡ Rlk2 = same_is σ Rlk2 h in
         issued_second f present is circuits m idle (subst (λ (τ : Signature). has_live τ is ≡ false) second n.none) (subst (λ (τ : Signature). IsNeeded f circuits τ) second n.needed) e

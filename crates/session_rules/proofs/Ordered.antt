@@ -1,17 +1,15 @@
 -- The facts about a list of instances, after each has changed and after one is issued.
-use Rattle.std.proofs.Common.{◌≡◌, ◌≢◌, ◌∙◌, sym, ap, subst, refl, ℕ, zero, suc, ◌+◌, ◌<◌, ◌≤◌, ◌^◌, Bool, true, false, ◌⊎◌, inl, inr, List, [], ◌∷◌, ◌++◌, length, map, get_or, Contains, arith}
+use Rattle.std.proofs.Common.{◌≡◌, ◌∙◌, sym, ap, subst, refl, ℕ, ◌+◌, ◌<◌, ◌^◌, true, false, inl, inr, List, [], ◌∷◌, ◌++◌, length, map, get_or, Contains, arith}
 use Rattle.std.proofs.lemmas.Bool.{both_ways, cases_lt}
 use Rattle.std.proofs.lemmas.List.{get_or-map, get_or_append_left, get_or_push, length-map, length_push}
-use Rattle.std.proofs.lemmas.List.Elements.{Contains-get_or, Contains-append_left, Contains-push, Contains-push_cases}
+use Rattle.std.proofs.lemmas.List.Elements.{Contains-get_or, Contains-append_left, Contains-push_cases}
 use Rattle.share_spec.specs.Sets.{has, count}
-use Rattle.proto_names.specs.Names.{is_void}
-use Rattle.proto_names.specs.Groups.{number_outside}
 use Rattle.proto_names.specs.Instances.{fresh, with_fresh}
 use Rattle.proto_names.specs.declared.signature.Signature.{Signature}
 use Rattle.proto_names.specs.declared.signature.Signature.TheVariants.{Rlk1, Rlk2, Dec}
 use Rattle.proto_names.specs.declared.sets.PartySet.{PartySet}
 use Rattle.proto_names.specs.declared.instance.Instance.{Instance}
-use Rattle.proto_names.specs.declared.instance.Stage.TheVariants.{Opened, Complete, Void}
+use Rattle.proto_names.specs.declared.instance.Stage.TheVariants.{Complete}
 use Rattle.session_rules.specs.declared.state.CircuitState.{CircuitState}
 use Rattle.session_rules.specs.declared.state.CircuitState.TheVariants.{Evaluated}
 use Rattle.session_rules.specs.declared.fixed.Fixed.{Fixed}
@@ -36,8 +34,13 @@ ordered_in f s k = record { numbered = k.numbered; one = k.one; sound = k.sound;
 
 pub kept_by : (f : Fixed) (s : State) → length s.circuits ≡ length f.plans → length s.given ≡ length f.plans → Ordered f s.present s.circuits s.instances → Kept f s
 kept_by f s circuits given o = record {
-  circuits = circuits; given = given;
-  numbered = o.numbered; one = o.one; sound = o.sound; decrypts = o.decrypts; rounds = o.rounds;
+  circuits = circuits;
+  given = given;
+  numbered = o.numbered;
+  one = o.one;
+  sound = o.sound;
+  decrypts = o.decrypts;
+  rounds = o.rounds;
 }
 
 -- ---- each instance has changed
@@ -119,7 +122,10 @@ first_push : (is : List Instance) (i second : Instance) → HasFirst is second �
 first_push is i second h = record {
   first = h.first;
   issued = Contains-append_left is (i ∷ []) h.first h.issued;
-  signature = h.signature; complete = h.complete; id = h.id; set = h.set;
+  signature = h.signature;
+  complete = h.complete;
+  id = h.id;
+  set = h.set;
 }
 
 pub rounds_push : (is : List Instance) (i : Instance) → (i.signature ≡ Rlk2 → HasFirst is i)

@@ -1,8 +1,8 @@
 -- Sets of parties with one more, with one less, and the least of them.
-use Rattle.std.proofs.Common.{◌≡◌, ◌∙◌, sym, ap, refl, ℕ, zero, suc, ◌+◌, ◌-◌, ◌*◌, ◌/◌, ◌%◌, ◌^◌, ◌<◌, ◌≤◌, ◌≢◌, min, max, Bool, true, false, not, nat_eq, nat_le, ◌&&◌, ◌⊎◌, inl, inr, List, length, take, filter, find, count_by, Contains, Option, Some, None, bit_or, bit_and, w32, arith}
+use Rattle.std.proofs.Common.{◌≡◌, ◌∙◌, sym, ap, refl, ℕ, zero, suc, ◌+◌, ◌-◌, ◌*◌, ◌%◌, ◌^◌, ◌<◌, ◌≤◌, ◌≢◌, max, true, false, not, nat_eq, nat_le, ◌&&◌, ◌⊎◌, inl, inr, length, take, Contains, None, bit_or, bit_and, w32, arith}
 use Rattle.std.specs.List.{range_with_len}
 use Rattle.std.specs.Int.{bit_at, bit_not}
-use Rattle.std.proofs.lemmas.Bool.{and_parts, and_from, and_cases, leb-true, le-leb, eqb-true, eq-eqb, ne_eqb, cases_Bool, cases_eq, cases_lt, both_ways, not-false, false_from_ne_true, and_right}
+use Rattle.std.proofs.lemmas.Bool.{and_parts, and_from, and_cases, leb-true, le-leb, eqb-true, eq-eqb, cases_Bool, cases_eq, cases_lt, both_ways, not-false, false_from_ne_true}
 use Rattle.std.proofs.lemmas.Nat.{one_shl, or_of_32, and_le_l}
 use Rattle.std.proofs.lemmas.Nat.Bits.{bit_at_or, bit_at-lt, bit_at-pow_other, bit_at_clear_other, bit_at-zero}
 use Rattle.std.proofs.lemmas.List.{length-take}

@@ -1,10 +1,8 @@
 -- Those that are present, where parties join; and who may turn a circuit that is taken.
-use Rattle.std.proofs.Common.{◌≡◌, ◌≢◌, ◌∙◌, sym, ap, subst, refl, ℕ, ◌<◌, ◌≤◌, ◌^◌, Bool, true, false, nat_eq, cond, inl, inr, List, [], ◌∷◌, set, Option, Some, arith}
+use Rattle.std.proofs.Common.{◌≡◌, ◌≢◌, ◌∙◌, subst, ℕ, ◌<◌, ◌≤◌, ◌^◌, Bool, true, false, nat_eq, cond, inl, inr, List, [], ◌∷◌, set, arith}
 use Rattle.std.specs.Prelude.{⊤}
-use Rattle.std.proofs.lemmas.Bool.{both_ways, cases_Bool, cases_eq, eqb-true}
+use Rattle.std.proofs.lemmas.Bool.{cases_eq, eqb-true}
 use Rattle.std.proofs.lemmas.List.{get_or-set_other}
-use Rattle.share_spec.specs.Sets.{has}
-use Rattle.proto_names.specs.Groups.{with_party, without_party}
 use Rattle.proto_names.specs.Instances.{missing}
 use Rattle.proto_names.specs.declared.signature.Signature.{Signature}
 use Rattle.proto_names.specs.declared.instance.Instance.{Instance}
@@ -17,7 +15,7 @@ use Rattle.proto_names.specs.declared.signature.Signature.TheVariants.{Dec}
 use Rattle.session_rules.specs.declared.fixed.Fixed.{Fixed}
 use Rattle.session_rules.specs.States.{State, circuit, opening, is_idle, is_taken_by}
 use Rattle.session_rules.specs.Steps.{answered_by, step}
-use Rattle.session_rules.specs.Histories.{after, state_after}
+use Rattle.session_rules.specs.Histories.{after}
 use Rattle.session_rules.specs.Facts.{JoinsParty, JoinParties, Kept, PartiesArePresent, TakenStays}
 use Rattle.session_rules.proofs.Changes.{Change, joins, loses, counts, gives, turns, moves, MayTurn, Joins, step_goes}
 use Rattle.session_rules.proofs.Marks.{instance_within}

@@ -4,8 +4,7 @@ use Rattle.std.specs.Prelude.{if◌then◌else◌}
 use Rattle.share_spec.specs.Sets.{has}
 use Rattle.proto_names.specs.Names.{rows_of}
 use Rattle.proto_names.specs.declared.signature.Signature.TheVariants.{Pk}
-use Rattle.proto_names.specs.Groups.{with_party, without_party}
-use Rattle.proto_names.specs.Instances.{instance, missing, after_share}
+use Rattle.proto_names.specs.Instances.{instance, missing}
 use Rattle.proto_names.specs.declared.instance.Instance.{Instance}
 use Rattle.proto_names.specs.declared.instance.Stage.{Stage}
 use Rattle.proto_names.specs.declared.instance.Stage.TheVariants.{Opened, Complete, Void}
@@ -16,8 +15,7 @@ use Rattle.session_rules.specs.declared.reply.Reply.TheVariants as reply
 use Rattle.session_rules.specs.declared.state.CircuitState.TheVariants.{Taken}
 use Rattle.session_rules.specs.declared.fixed.Fixed.{Fixed}
 use Rattle.session_rules.specs.States.{State, circuit, is_taken_by, is_given, plan, has_done}
-use Rattle.session_rules.specs.Issues.{issue}
-use Rattle.session_rules.specs.Steps.{join, lose, after_loss, pending, brief, told, deliver, by_stage, accepted, counted, answered_by, input, is_input, with_input, take, next_ready, with_circuit, finish, give_back, step}
+use Rattle.session_rules.specs.Steps.{join, lose, pending, brief, told, deliver, by_stage, accepted, counted, input, is_input, take, next_ready, with_circuit, finish, give_back, step}
 use Rattle.session_rules.specs.Facts.{accepts, Refuses}
 
 either : (s : State) (b : Bool) (x y : Reply × State) → Refuses s x → Refuses s y → Refuses s (if b then x else y)
@@ -57,8 +55,8 @@ by_stage-refuses f s i p rows Complete = accepted-refuses f s i p rows
 deliver-refuses : (f : Fixed) (s : State) (id p rows : ℕ) → Refuses s (deliver f s id p rows)
 unfolding deliver
 deliver-refuses f s id p rows = elim (instance s.instances id) as (λ (found : Option Instance). Refuses s (elim found [
-    | None ↦ (reply.Unknown (length s.instances), s)
-    | Some i ↦ if has i.set.bits p then by_stage f s i p rows i.stage else (reply.Stranger, s)
+  | None ↦ (reply.Unknown (length s.instances), s)
+  | Some i ↦ if has i.set.bits p then by_stage f s i p rows i.stage else (reply.Stranger, s)
 ])) [
   | None ↦ unchanged s (reply.Unknown (length s.instances))
   | Some i ↦ either s (has i.set.bits p) _ _ (by_stage-refuses f s i p rows i.stage) (unchanged s reply.Stranger)
@@ -75,8 +73,8 @@ input-refuses f s c k =
 take-refuses : (f : Fixed) (s : State) (caller : ℕ) → Refuses s (take f s caller)
 unfolding take
 take-refuses f s caller = elim (next_ready f s) as (λ (found : Option ℕ). Refuses s (elim found [
-    | None ↦ (reply.Nothing, s)
-    | Some c ↦ (reply.Job c, with_circuit s c (Taken caller))
+  | None ↦ (reply.Nothing, s)
+  | Some c ↦ (reply.Job c, with_circuit s c (Taken caller))
 ])) [
   | None ↦ unchanged s reply.Nothing
   | Some c ↦ accepted_reply s _ (reply.Job c) refl

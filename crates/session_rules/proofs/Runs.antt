@@ -1,7 +1,7 @@
 -- Histories that go on, and how much is issued in them.
-use Rattle.std.proofs.Common.{◌≡◌, ◌≢◌, ◌∙◌, sym, ap, subst, refl, ℕ, zero, suc, ◌+◌, ◌*◌, ◌≤◌, Bool, true, false, not, nat_eq, List, [], ◌∷◌, ◌++◌, length, map, slice_index_or, Option, Some, None, arith}
+use Rattle.std.proofs.Common.{◌≡◌, ◌∙◌, sym, ap, refl, ℕ, zero, suc, ◌+◌, ◌*◌, ◌≤◌, Bool, true, false, not, nat_eq, List, [], ◌∷◌, ◌++◌, length, slice_index_or, Option, Some, None, arith}
 use Rattle.std.specs.Prelude.{if◌then◌else◌}
-use Rattle.std.proofs.lemmas.List.{length-map, length-append, append_cancel_left}
+use Rattle.std.proofs.lemmas.List.{length-map, length-append}
 use Rattle.share_spec.specs.Sets.{has}
 use Rattle.proto_names.specs.Names.{rows_of}
 use Rattle.proto_names.specs.Groups.{with_party, without_party}
@@ -23,7 +23,7 @@ use Rattle.session_rules.specs.declared.fixed.Fixed.{Fixed}
 use Rattle.session_rules.specs.States.{State, circuit, opening, is_taken_by, is_given, plan, has_done}
 use Rattle.session_rules.specs.Issues.{next_move, instances_after, issued_in, issue, most_moves}
 use Rattle.session_rules.specs.Steps.{join, lose, after_loss, deliver, by_stage, accepted, counted, answered_by, input, is_input, with_input, take, next_ready, with_circuit, finish, give_back, step}
-use Rattle.session_rules.specs.Histories.{after, replayed, state_after, IsLegal}
+use Rattle.session_rules.specs.Histories.{after, replayed, state_after}
 use Rattle.session_rules.specs.Facts.{FewAreIssued, HistoriesIssueFew, LegalOnesGrow, NextState, BeginningsAreLegal, StatesLeadOn, LaterOnesFollow, NoneBy, TakenStaysOn, Kept}
 use Rattle.session_rules.proofs.Keeps.{state_kept, after_next, step_next}
 use Rattle.session_rules.proofs.Presence.{taken_stays}
@@ -94,8 +94,8 @@ by_stage_within f s i p rows Opened = accepted_within f s i p rows
 by_stage_within f s i p rows Complete = accepted_within f s i p rows
 
 found_within : (f : Fixed) (s : State) (p rows : ℕ) (found : Option Instance) → Within f s (elim found as (λ x. Reply × State) [
-    | None ↦ (reply.Unknown (length s.instances), s)
-    | Some i ↦ if has i.set.bits p then by_stage f s i p rows i.stage else (reply.Stranger, s)
+  | None ↦ (reply.Unknown (length s.instances), s)
+  | Some i ↦ if has i.set.bits p then by_stage f s i p rows i.stage else (reply.Stranger, s)
 ]).1
 found_within f s p rows None = as_many f s s refl
 found_within f s p rows (Some i) = either f s (has i.set.bits p) (by_stage f s i p rows i.stage) (reply.Stranger, s) (by_stage_within f s i p rows i.stage) (as_many f s s refl)
@@ -113,8 +113,8 @@ input_within f s c k =
     (either f s (is_given s c k) (reply.Repeat, s) (reply.Given, record s { given = with_input s.given c k }) (as_many f s s refl) (as_many f s (record s { given = with_input s.given c k }) refl))))
 
 ready_within : (f : Fixed) (s : State) (caller : ℕ) (found : Option ℕ) → Within f s (elim found as (λ x. Reply × State) [
-    | None ↦ (reply.Nothing, s)
-    | Some c ↦ (reply.Job c, with_circuit s c (Taken caller))
+  | None ↦ (reply.Nothing, s)
+  | Some c ↦ (reply.Job c, with_circuit s c (Taken caller))
 ]).1
 ready_within f s caller None = as_many f s s refl
 ready_within f s caller (Some c) = as_many f s (with_circuit s c (Taken caller)) refl

@@ -1,26 +1,24 @@
 -- What a share that is counted does to the facts about instances and circuits.
-use Rattle.std.proofs.Common.{◌≡◌, ◌≢◌, ◌∙◌, sym, ap, subst, refl, ℕ, zero, suc, ◌+◌, ◌-◌, ◌<◌, ◌≤◌, ◌^◌, Bool, true, false, not, nat_eq, cond, ◌⊎◌, inl, inr, List, [], ◌∷◌, length, map, get_or, set, Contains, arith, length-set}
+use Rattle.std.proofs.Common.{◌≡◌, ◌∙◌, sym, ap, subst, refl, ℕ, ◌≤◌, Bool, true, false, nat_eq, cond, ◌⊎◌, inl, inr, List, length, set, Contains, arith, length-set}
 use Rattle.std.specs.Prelude.{if◌then◌else◌}
 use Rattle.std.proofs.lemmas.Bool.{both_ways, cases_Bool, cases_eq, cases_lt, eqb-true, eqb-false, eq-eqb, false_from_ne_true}
 use Rattle.std.proofs.lemmas.List.{get_or-set_other, get_or-set_same, get_or_past}
 use Rattle.share_spec.specs.Sets.{has}
-use Rattle.proto_names.specs.Names.{is_void}
 use Rattle.proto_names.specs.Groups.{with_party, number_outside}
 use Rattle.proto_names.specs.Instances.{missing, with_share, counted_at, after_share}
 use Rattle.proto_names.specs.declared.signature.Signature.{Signature}
 use Rattle.proto_names.specs.declared.signature.Signature.TheVariants.{Pk, Rlk1, Rlk2, Rot, Dec}
 use Rattle.proto_names.specs.declared.instance.Instance.{Instance}
-use Rattle.proto_names.specs.declared.instance.Stage.{Stage}
-use Rattle.proto_names.specs.declared.instance.Stage.TheVariants.{Opened, Complete, Void}
+use Rattle.proto_names.specs.declared.instance.Stage.TheVariants.{Opened, Complete}
 use Rattle.session_rules.specs.declared.state.CircuitState.{CircuitState}
-use Rattle.session_rules.specs.declared.state.CircuitState.TheVariants.{Evaluated, Answered}
+use Rattle.session_rules.specs.declared.state.CircuitState.TheVariants.{Answered}
 use Rattle.session_rules.specs.declared.fixed.Fixed.{Fixed}
 use Rattle.session_rules.specs.States.{circuit, is_refused}
 use Rattle.session_rules.specs.Steps.{answered_by}
-use Rattle.session_rules.specs.Facts.{IsLive, IsSameLater, IsSound, Decrypts, HasFirst}
-use Rattle.session_rules.proofs.Marks.{IsDone, one_number, opened_lives, complete_lives, live_cases}
+use Rattle.session_rules.specs.Facts.{IsLive, IsSameLater, IsSound, Decrypts}
+use Rattle.session_rules.proofs.Marks.{IsDone, one_number, opened_lives, live_cases}
 use Rattle.session_rules.proofs.PartySets.{has_party, with_keeps, with_cases, with_small, nobody_outside}
-use Rattle.session_rules.proofs.Later.{share_later, where_so, StayAdmitted, circuits_reflexive, set_admitted, circuit_set}
+use Rattle.session_rules.proofs.Later.{share_later, where_so, StayAdmitted, circuits_reflexive, set_admitted}
 use Rattle.session_rules.proofs.Ordered.{Ordered, numbered_map, one_map, each_map, rounds_map}
 
 -- ---- a live instance that lacks a share is opened
@@ -80,8 +78,7 @@ answered_admitted (Dec c) circuits h = set_admitted circuits c Answered (h c ref
 -- ---- the share
 
 module _ (f : Fixed) (present : ℕ) (circuits : List CircuitState) (is : List Instance) (o : Ordered f present circuits is) (i : Instance) (p : ℕ)
-  (within : Contains is i) (opened : i.stage ≡ Opened) (member : has i.set.bits p ≡ true) (unsent : has i.sent.bits p ≡ false) where
-
+    (within : Contains is i) (opened : i.stage ≡ Opened) (member : has i.set.bits p ≡ true) (unsent : has i.sent.bits p ≡ false) where
   -- the instance with its number is itself
   itself : (a : Instance) → Contains is a → nat_eq a.id i.id ≡ true → i ≡ a
   itself a m e = one_number is i a o.numbered within m (sym (eqb-true a.id i.id e))
@@ -102,7 +99,8 @@ module _ (f : Fixed) (present : ℕ) (circuits : List CircuitState) (is : List I
   share_sound s =
       let range = has_party i.set.bits p member in
       record {
-        set = s.set; parties = s.parties;
+        set = s.set;
+        parties = s.parties;
         sent = with_small i.sent.bits p s.sent range.1;
         senders = λ q h. elim (with_cases i.sent.bits p q range.0 h) [
           | inl same_party ↦ subst (λ (z : ℕ). has i.set.bits z ≡ true) (sym same_party) member
@@ -116,14 +114,17 @@ module _ (f : Fixed) (present : ℕ) (circuits : List CircuitState) (is : List I
       by_zero : (n : ℕ) (b : Bool) → nat_eq n 0 ≡ b → (if b then Complete else Opened) ≡ Complete → n ≡ 0
       by_zero n true z e = eqb-true n 0 z
       by_zero n false z e = cc
+
       done : (n : ℕ) → (if nat_eq n 0 then Complete else Opened) ≡ Complete → n ≡ 0
       done n e = by_zero n (nat_eq n 0) refl e
+
       by_one : (n : ℕ) (b : Bool) → nat_eq n 0 ≡ b → (if b then Complete else Opened) ≡ Opened → 1 ≤ n
       by_one n true z e = cc
       by_one n false z e = let none = eqb-false n 0 z in elim (cases_eq n 0) [
         | inl at ↦ absurd (none at)
         | inr at ↦ omega arith
       ]
+
       more : (n : ℕ) → (if nat_eq n 0 then Complete else Opened) ≡ Opened → 1 ≤ n
       more n e = by_one n (nat_eq n 0) refl e
 

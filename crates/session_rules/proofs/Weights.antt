@@ -1,28 +1,26 @@
 -- Issuing ends: each move lowers a weight, which is the number of needed signatures of which no
 -- instance lives, and two more where a first round is complete.
-use Rattle.std.proofs.Common.{◌≡◌, ◌≢◌, ◌∙◌, sym, ap, subst, refl, ℕ, zero, suc, ◌+◌, ◌*◌, ◌≤◌, Bool, true, false, not, nat_eq, cond, ◌||◌, ◌⊎◌, inl, inr, List, [], ◌∷◌, ◌++◌, length, map, filter, fold, Contains, Option, Some, None, arith}
+use Rattle.std.proofs.Common.{◌≡◌, ◌∙◌, sym, ap, subst, refl, ℕ, zero, suc, ◌+◌, ◌*◌, ◌≤◌, Bool, true, false, not, nat_eq, cond, ◌||◌, ◌⊎◌, inl, inr, List, [], ◌∷◌, ◌++◌, length, map, filter, fold, Contains, Option, Some, None, arith}
 use Rattle.std.specs.Prelude.{if◌then◌else◌}
 use Rattle.std.specs.List.{range_with_len, list_any}
 use Rattle.std.proofs.lemmas.Bool.{both_ways, cases_Bool, not-true, not_from_false, not_from_true, eqb-true, eq-eqb, false_from_ne_true, or_parts}
 use Rattle.std.proofs.lemmas.List.{length-append, length-map}
 use Rattle.std.proofs.lemmas.List.Elements.{filter-append, Contains-append_left, Contains-append_right, Contains-push}
 use Rattle.std.proofs.lemmas.List.Folds.{list_any-append}
-use Rattle.proto_names.specs.Names.{same, is_void}
-use Rattle.proto_names.specs.Instances.{lives, is_done, fresh, with_fresh, given_up, after_void}
+use Rattle.proto_names.specs.Names.{same}
+use Rattle.proto_names.specs.Instances.{lives, is_done, fresh, given_up, after_void}
 use Rattle.proto_names.specs.declared.signature.Signature.{Signature}
 use Rattle.proto_names.specs.declared.signature.Signature.TheVariants.{Pk, Rlk1, Rlk2, Rot, Dec}
-use Rattle.proto_names.specs.declared.sets.PartySet.{PartySet}
 use Rattle.proto_names.specs.declared.instance.Instance.{Instance}
 use Rattle.proto_names.specs.declared.instance.Stage.TheVariants.{Opened, Complete, Void}
 use Rattle.session_rules.specs.declared.state.CircuitState.{CircuitState}
 use Rattle.session_rules.specs.declared.moves.Move.{Move}
-use Rattle.session_rules.specs.declared.moves.Move.TheVariants.{GiveUp, Issue}
 use Rattle.session_rules.specs.declared.fixed.Fixed.{Fixed}
 use Rattle.session_rules.specs.States.{State, has_live, has_done}
 use Rattle.session_rules.specs.Issues.{keys, wants_key, wants_relin, next_move, instances_after, least_present, moves_in, issued_in, most_moves, issue}
 use Rattle.session_rules.specs.Facts.{Kept, IsLive}
 use Rattle.session_rules.proofs.Contained.{contains_nil, contains_cases, contains_map, contains_map_from, any_false, any_from, any_none, any_true, contains_here, contains_there}
-use Rattle.session_rules.proofs.Marks.{lives_is, IsDone, done_is, done_from, same_is, same_self, one_number, none_lives, lives_from, complete_lives, opened_lives}
+use Rattle.session_rules.proofs.Marks.{lives_is, IsDone, done_is, done_from, same_self, one_number, lives_from, complete_lives, opened_lives}
 use Rattle.session_rules.proofs.MoveKinds.{MoveIs, gives_up, second, other, move_is, IsNeeded, key, decryption}
 use Rattle.session_rules.proofs.Ordered.{Ordered, ordered_in}
 use Rattle.session_rules.proofs.Later.{later_lives}
@@ -214,6 +212,7 @@ none_done f present circuits is i by o m d = any_none (is_done Rlk1) (map (given
     void_done : (i a : Instance) (by : ℕ) → a.id ≡ i.id → IsDone Rlk1 (given_up i.id by a) → ⊥
     void_done i a by e d = let c : (if nat_eq a.id i.id then record a { stage = Void by } else a).stage ≡ Complete = d.complete in
         let v : Void by ≡ Complete = rw (eq-eqb a.id i.id e) at c in cc
+
     given_up_done : (is : List Instance) (i : Instance) (by : ℕ) (f : Fixed) (present : ℕ) (circuits : List CircuitState) → Ordered f present circuits is → Contains is i → IsDone Rlk1 i → (a : Instance) → Contains is a → IsDone Rlk1 (given_up i.id by a) → ⊥
     given_up_done is i by f present circuits o m d a n h =
         let l = give_up_later is i by f present circuits o m d a n in

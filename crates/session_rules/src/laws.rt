@@ -4,8 +4,7 @@ ghost use Rattle.session_rules.specs.Facts.{RefusalsChangeNothing, CallsKeep, Hi
 /// A reply that refuses goes with the state as it was.
 pub fn refusals()
     ensures { RefusalsChangeNothing }
-{
-}
+{}
 
 /// What holds in every state that calls lead to: of each signature at most one instance is opened or
 /// complete, the parties that an opened one waits for are present, a second round has its first one,
@@ -14,8 +13,7 @@ pub fn invariants()
     ensures calls { CallsKeep }
     ensures histories { HistoriesKeep }
     ensures present { PartiesArePresent }
-{
-}
+{}
 
 /// What no call changes: an instance's number, signature, parties and attempt, and what is complete,
 /// void, given, refused, evaluated or answered. A circuit that is taken is its caller's.
@@ -25,24 +23,21 @@ pub fn constancy()
     ensures keys { KeysStay }
     ensures first_rounds { FirstRoundsStay }
     ensures taken { TakenStays }
-{
-}
+{}
 
 /// Issuing ends after few moves, and does them one after the other.
 pub fn issuing()
     ensures ends { IssueEnds }
     ensures moves { IssueIsItsMoves }
     ensures few { MovesAreFew }
-{
-}
+{}
 
 /// Each share of an instance that isn't void is counted once.
 pub fn shares()
     ensures wanted { SharesAreWanted }
     ensures once { SharesAreCountedOnce }
     ensures complete { CompleteOnesLackNone }
-{
-}
+{}
 
 /// A legal history goes on by any call with the reply that it has to have, each of its beginnings is
 /// legal, and what never changes stays to its end. Few instances are issued in it.
@@ -55,5 +50,4 @@ pub fn histories()
     ensures taken { TakenStaysOn }
     ensures call_issues_few { FewAreIssued }
     ensures few { HistoriesIssueFew }
-{
-}
+{}
