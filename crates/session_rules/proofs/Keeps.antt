@@ -91,11 +91,11 @@ give_next f s c k h =
     )
 
 -- a circuit that may be changed is idle or taken
-record IsOpen (now : CircuitState) : Type 0 where
-  admitted : is_refused now ≡ false
-  unsettled : is_settled now ≡ false
+pub record IsOpen (now : CircuitState) : Type 0 where
+  pub admitted : is_refused now ≡ false
+  pub unsettled : is_settled now ≡ false
 
-open_is : (caller : ℕ) (now : CircuitState) → MayTurn caller now → IsOpen now
+pub open_is : (caller : ℕ) (now : CircuitState) → MayTurn caller now → IsOpen now
 open_is caller (Refused place bound limit) (inl e) = cc
 open_is caller (Refused place bound limit) (inr e) = cc
 open_is caller Idle h = record { admitted = refl; unsettled = refl }

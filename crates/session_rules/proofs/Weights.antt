@@ -18,7 +18,7 @@ use Rattle.session_rules.specs.declared.moves.Move.{Move}
 use Rattle.session_rules.specs.declared.fixed.Fixed.{Fixed}
 use Rattle.session_rules.specs.States.{State, has_live, has_done}
 use Rattle.session_rules.specs.Issues.{keys, wants_key, wants_relin, next_move, instances_after, least_present, moves_in, issued_in, most_moves, issue}
-use Rattle.session_rules.specs.Facts.{Kept, IsLive}
+use Rattle.session_rules.specs.Facts.{Kept, IsLive, IssueEnds}
 use Rattle.session_rules.proofs.Contained.{contains_nil, contains_cases, contains_map, contains_map_from, any_false, any_from, any_none, any_true, contains_here, contains_there}
 use Rattle.session_rules.proofs.Marks.{lives_is, IsDone, done_is, done_from, same_self, one_number, lives_from, complete_lives, opened_lives}
 use Rattle.session_rules.proofs.MoveKinds.{MoveIs, gives_up, second, other, move_is, IsNeeded, key, decryption}
@@ -293,7 +293,7 @@ ends_in zero f present is circuits o l = none_left f present is circuits o l (ne
 ends_in (suc n) f present is circuits o l = ends_then n f present is circuits (λ now. ends_in n f present now circuits) o l (next_move f present is circuits) refl
 
 -- after an issue no move is left
-pub issue_ends : (f : Fixed) (s : State) → Kept f s → next_move f s.present (issue f s).instances s.circuits ≡ None
+pub issue_ends : IssueEnds
 unfolding issue most_moves
 issue_ends f s k =
     let most = weight_most f s.circuits s.instances in

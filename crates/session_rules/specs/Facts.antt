@@ -176,16 +176,27 @@ abbrev pub TakenStays : Type 0
 TakenStays = (f : Fixed) (s : State) (caller who : ℕ) (c : Call) (circuit_ : ℕ) → Kept f s → who ≢ caller
     → circuit s.circuits circuit_ ≡ Taken who → circuit (step f s caller c).1.circuits circuit_ ≡ Taken who
 
+-- neither rule of issue applies
+abbrev pub IsAtRest : Fixed → State → Type 0
+IsAtRest f s = next_move f s.present s.instances s.circuits ≡ None
+
 -- issuing ends: then neither rule applies, after at most as many moves as are allowed, which are made
 -- one after the other
 abbrev pub IssueEnds : Type 0
-IssueEnds = (f : Fixed) (s : State) → Kept f s → next_move f s.present (issue f s).instances s.circuits ≡ None
+IssueEnds = (f : Fixed) (s : State) → Kept f s → IsAtRest f (issue f s)
 
 abbrev pub IssueIsItsMoves : Type 0
 IssueIsItsMoves = (f : Fixed) (s : State) → (issue f s).instances ≡ fold instances_after s.instances (moves f s)
 
 abbrev pub MovesAreFew : Type 0
 MovesAreFew = (f : Fixed) (s : State) → length (moves f s) ≤ most_moves f
+
+-- so it is at first, where the threshold is not 0, and after every call
+abbrev pub CallsLeaveRest : Type 0
+CallsLeaveRest = (f : Fixed) (s : State) (caller : ℕ) (c : Call) → Kept f s → IsAtRest f s → IsAtRest f (step f s caller c).1
+
+abbrev pub HistoriesLeaveRest : Type 0
+HistoriesLeaveRest = (f : Fixed) (es : List Entry) → 1 ≤ f.threshold → IsAtRest f (state_after f es)
 
 -- a party of an instance that isn't void
 pub record TakesPart (s : State) (id p : ℕ) (i : Instance) : Type 0 where

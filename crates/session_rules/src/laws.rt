@@ -1,5 +1,5 @@
 //! What follows from the rules, whatever is called: each function states a law, and does nothing.
-ghost use Rattle.session_rules.specs.Facts.{RefusalsChangeNothing, CallsKeep, HistoriesKeep, PartiesArePresent, CallsLeave, HistoriesLeave, KeysStay, FirstRoundsStay, TakenStays, IssueEnds, IssueIsItsMoves, MovesAreFew, SharesAreWanted, SharesAreCountedOnce, CompleteOnesLackNone, FewAreIssued, HistoriesIssueFew, LegalOnesGrow, NextState, BeginningsAreLegal, StatesLeadOn, LaterOnesFollow, TakenStaysOn};
+ghost use Rattle.session_rules.specs.Facts.{RefusalsChangeNothing, CallsKeep, HistoriesKeep, PartiesArePresent, CallsLeave, HistoriesLeave, KeysStay, FirstRoundsStay, TakenStays, IssueEnds, IssueIsItsMoves, MovesAreFew, CallsLeaveRest, HistoriesLeaveRest, SharesAreWanted, SharesAreCountedOnce, CompleteOnesLackNone, FewAreIssued, HistoriesIssueFew, LegalOnesGrow, NextState, BeginningsAreLegal, StatesLeadOn, LaterOnesFollow, TakenStaysOn};
 
 /// A reply that refuses goes with the state as it was.
 pub fn refusals()
@@ -25,11 +25,14 @@ pub fn constancy()
     ensures taken { TakenStays }
 {}
 
-/// Issuing ends after few moves, and does them one after the other.
+/// Issuing ends after few moves, and does them one after the other. So in every state that calls lead
+/// to nothing is left to be issued or given up.
 pub fn issuing()
     ensures ends { IssueEnds }
     ensures moves { IssueIsItsMoves }
     ensures few { MovesAreFew }
+    ensures calls { CallsLeaveRest }
+    ensures histories { HistoriesLeaveRest }
 {}
 
 /// Each share of an instance that isn't void is counted once.

@@ -1,3 +1,4 @@
+use Rattle.session_rules.proofs.Rest.{calls_leave_rest, histories_leave_rest}
 use Rattle.session_rules.proofs.Weights.{issue_ends}
 use Rattle.session_rules.proofs.Deliveries.{issue_is_its_moves, moves_are_few}
 use Rattle.session_rules.proofs.laws.issuing.Goals as goal
@@ -10,3 +11,9 @@ returns-clause-moves c = issue_is_its_moves
 
 pub returns-clause-few : goal.returns-clause-few
 returns-clause-few c = moves_are_few
+
+pub returns-clause-calls : goal.returns-clause-calls
+returns-clause-calls c = calls_leave_rest
+
+pub returns-clause-histories : goal.returns-clause-histories
+returns-clause-histories c = histories_leave_rest
