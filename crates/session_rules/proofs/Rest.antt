@@ -1,9 +1,9 @@
 -- After every call neither rule of issue applies.
-use Rattle.std.proofs.Common.{◌≡◌, ◌≢◌, ◌∙◌, sym, ap, ap₂, subst, refl, ℕ, zero, suc, ◌+◌, ◌≤◌, Bool, true, false, not, nat_eq, ◌&&◌, ◌||◌, cond, inl, inr, List, [], ◌∷◌, length, map, find, set, slice_index_or, Contains, Option, Some, None, arith, length-set}
+use Rattle.std.proofs.Common.{◌≡◌, ◌∙◌, sym, ap, ap₂, subst, refl, ℕ, ◌≤◌, Bool, true, false, not, nat_eq, ◌&&◌, cond, inl, inr, List, [], ◌∷◌, length, map, find, set, slice_index_or, Contains, Option, Some, None, length-set}
 use Rattle.std.specs.Prelude.{if◌then◌else◌, nat_le}
 use Rattle.std.specs.List.{range_with_len, list_any}
 use Rattle.std.specs.Option.{option_map, option_or, option_and_then}
-use Rattle.std.proofs.lemmas.Bool.{and_right, lt-leb, cases_Bool, cases_eq, eqb-true, not-false, and_parts, or_parts}
+use Rattle.std.proofs.lemmas.Bool.{and_right, lt-leb, cases_eq, eqb-true, not-false, and_parts, or_parts}
 use Rattle.std.proofs.lemmas.List.{get_or-set_other}
 use Rattle.share_spec.specs.Sets.{has, members_to, members, count}
 use Rattle.proto_names.specs.Names.{same, rows_of, is_void}
@@ -14,26 +14,24 @@ use Rattle.proto_names.specs.declared.signature.Signature.TheVariants.{Pk, Rlk1,
 use Rattle.proto_names.specs.declared.instance.Instance.{Instance}
 use Rattle.proto_names.specs.declared.instance.Stage.{Stage}
 use Rattle.proto_names.specs.declared.instance.Stage.TheVariants.{Opened, Complete, Void}
-use Rattle.session_rules.specs.declared.call.Call.{Call}
 use Rattle.session_rules.specs.declared.call.Call.TheVariants as call
 use Rattle.session_rules.specs.declared.call.Entry.{Entry}
 use Rattle.session_rules.specs.declared.reply.Reply.{Reply}
 use Rattle.session_rules.specs.declared.reply.Reply.TheVariants as reply
 use Rattle.session_rules.specs.declared.state.CircuitState.{CircuitState}
-use Rattle.session_rules.specs.declared.state.CircuitState.TheVariants.{Refused, Idle, Taken, Evaluated, Answered}
-use Rattle.session_rules.specs.declared.moves.Move.{Move}
+use Rattle.session_rules.specs.declared.state.CircuitState.TheVariants.{Idle, Taken, Evaluated, Answered}
 use Rattle.session_rules.specs.declared.fixed.Fixed.{Fixed}
 use Rattle.session_rules.specs.States.{State, circuit, opening, is_idle, is_taken_by, is_evaluated, is_answered, is_given, plan, has_live, has_done}
-use Rattle.session_rules.specs.Issues.{keys, enough, condition, may_issue, may_decrypt, next_decryption, next_signature, outdated, rule_1, second_round, least_present, issued_as, rule_2, next_move, issue}
+use Rattle.session_rules.specs.Issues.{keys, enough, condition, may_issue, may_decrypt, next_decryption, next_signature, rule_1, issued_as, rule_2, next_move, issue}
 use Rattle.session_rules.specs.Steps.{join, lose, after_loss, deliver, by_stage, accepted, counted, answered_by, input, is_input, with_input, take, next_ready, ready, with_circuit, finish, give_back, step}
-use Rattle.session_rules.specs.Histories.{after, state_after}
-use Rattle.session_rules.specs.Facts.{Kept, IsLive, IsAtRest, CallsLeaveRest, HistoriesLeaveRest}
+use Rattle.session_rules.specs.Histories.{after}
+use Rattle.session_rules.specs.Facts.{Kept, IsAtRest, CallsLeaveRest, HistoriesLeaveRest}
 use Rattle.session_rules.proofs.Changes.{Change, joins, loses, counts, turns, MayTurn, after_count}
 use Rattle.session_rules.proofs.Contained.{contains_here, contains_there, find_some}
-use Rattle.session_rules.proofs.Marks.{instance_within, one_number, IsDone, done_is}
+use Rattle.session_rules.proofs.Marks.{instance_within, one_number, done_is}
 use Rattle.session_rules.proofs.Shares.{lacking_opened}
 use Rattle.session_rules.proofs.Later.{circuit_set}
-use Rattle.session_rules.proofs.Keeps.{Anybody, change_next, opening_kept, step_next, IsOpen, open_is}
+use Rattle.session_rules.proofs.Keeps.{Anybody, change_next, opening_kept, step_next, open_is}
 use Rattle.session_rules.proofs.Weights.{issue_ends}
 
 -- ---- searches by tests that agree
@@ -167,7 +165,6 @@ turn_alike circuits c now was is = record {
 -- ---- the calls
 
 module _ (f : Fixed) (s : State) (caller : ℕ) (k : Kept f s) (rest : IsAtRest f s) where
-
   abbrev Rests : State → Type 0
   Rests t = IsAtRest f t
 
@@ -214,8 +211,8 @@ module _ (f : Fixed) (s : State) (caller : ℕ) (k : Kept f s) (rest : IsAtRest 
   by_stage_rests id p rows i Complete e found member = accepted_rests id p rows i found member (rw e refl)
 
   found_rests : (id p rows : ℕ) (o : Option Instance) → instance s.instances id ≡ o → Rests (elim o as (λ x. Reply × State) [
-      | None ↦ (reply.Unknown (length s.instances), s)
-      | Some i ↦ if has i.set.bits p then by_stage f s i p rows i.stage else (reply.Stranger, s)
+    | None ↦ (reply.Unknown (length s.instances), s)
+    | Some i ↦ if has i.set.bits p then by_stage f s i p rows i.stage else (reply.Stranger, s)
   ]).1
   found_rests id p rows None e = rest
   found_rests id p rows (Some i) e =
@@ -239,8 +236,8 @@ module _ (f : Fixed) (s : State) (caller : ℕ) (k : Kept f s) (rest : IsAtRest 
       (turn_alike s.circuits c now (or_parts (is_evaluated (circuit s.circuits c)) (is_answered (circuit s.circuits c)) (open_is caller (circuit s.circuits c) may).unsettled).0 is) ∙ rest
 
   ready_rests : (o : Option ℕ) → next_ready f s ≡ o → Rests (elim o as (λ x. Reply × State) [
-      | None ↦ (reply.Nothing, s)
-      | Some c ↦ (reply.Job c, with_circuit s c (Taken caller))
+    | None ↦ (reply.Nothing, s)
+    | Some c ↦ (reply.Job c, with_circuit s c (Taken caller))
   ]).1
   unfolding next_ready ready
   ready_rests None e = rest

@@ -16,9 +16,9 @@ use Rattle.proto_names.specs.declared.instance.Stage.TheVariants.{Opened, Comple
 use Rattle.session_rules.specs.declared.state.CircuitState.{CircuitState}
 use Rattle.session_rules.specs.declared.moves.Move.{Move}
 use Rattle.session_rules.specs.declared.fixed.Fixed.{Fixed}
-use Rattle.session_rules.specs.States.{State, has_live, has_done}
+use Rattle.session_rules.specs.States.{has_live, has_done}
 use Rattle.session_rules.specs.Issues.{keys, wants_key, wants_relin, next_move, instances_after, least_present, moves_in, issued_in, most_moves, issue}
-use Rattle.session_rules.specs.Facts.{Kept, IsLive, IssueEnds}
+use Rattle.session_rules.specs.Facts.{IsLive, IssueEnds}
 use Rattle.session_rules.proofs.Contained.{contains_nil, contains_cases, contains_map, contains_map_from, any_false, any_from, any_none, any_true, contains_here, contains_there}
 use Rattle.session_rules.proofs.Marks.{lives_is, IsDone, done_is, done_from, same_self, one_number, lives_from, complete_lives, opened_lives}
 use Rattle.session_rules.proofs.MoveKinds.{MoveIs, gives_up, second, other, move_is, IsNeeded, key, decryption}
