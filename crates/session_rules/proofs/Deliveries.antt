@@ -1,7 +1,7 @@
 -- What a share meets; and that keys and first rounds stay.
-use Rattle.std.proofs.Common.{◌≡◌, ◌∙◌, sym, subst, refl, ℕ, ◌<◌, true, false, length, get_or, Contains, Option, Some, None, arith}
+use Rattle.std.proofs.Common.{◌≡◌, ◌≢◌, ◌∙◌, sym, subst, refl, ℕ, ◌<◌, true, false, length, get_or, Contains, Option, Some, None, arith}
 use Rattle.std.specs.Prelude.{if◌then◌else◌}
-use Rattle.std.proofs.lemmas.Bool.{eq-eqb}
+use Rattle.std.proofs.lemmas.Bool.{eq-eqb, ne_eqb}
 use Rattle.std.proofs.lemmas.List.Elements.{Contains-get_or}
 use Rattle.share_spec.specs.Sets.{has}
 use Rattle.proto_names.specs.Names.{rows_of, is_void}
@@ -16,7 +16,7 @@ use Rattle.session_rules.specs.States.{State, has_done}
 use Rattle.session_rules.specs.Issues.{issue, moves, most_moves}
 use Rattle.session_rules.specs.Steps.{deliver, by_stage, accepted, counted}
 use Rattle.session_rules.specs.Histories.{after}
-use Rattle.session_rules.specs.Facts.{IsLive, IsSameLater, TakesPart, SharesAreWanted, SharesAreCountedOnce, CompleteOnesLackNone, KeysStay, FirstRoundsStay, IssueIsItsMoves, MovesAreFew}
+use Rattle.session_rules.specs.Facts.{IsLive, IsSameLater, TakesPart, SharesAreWanted, SharesAreCountedOnce, ShapesAreRefused, CompleteOnesLackNone, KeysStay, FirstRoundsStay, IssueIsItsMoves, MovesAreFew}
 use Rattle.session_rules.proofs.Contained.{any_true, any_from}
 use Rattle.session_rules.proofs.Marks.{IsDone, done_is, done_from, instance_within, one_number, complete_lives}
 use Rattle.session_rules.proofs.PartySets.{nobody_outside}
@@ -55,6 +55,13 @@ shares_are_wanted f s id p i k t unsent = (
   lacking_opened f s.present i p (k.sound i (instance_within s.instances id i t.issued)) t.lives t.member unsent,
   delivered f s id p (rows_of i.signature f.rows) i t ∙ right_length f s i p unsent,
 )
+
+wrong_length : (f : Fixed) (s : State) (i : Instance) (p rows : ℕ) → has i.sent.bits p ≡ false → rows_of i.signature f.rows ≢ rows → accepted f s i p rows ≡ (reply.Shape (rows_of i.signature f.rows) rows, s)
+unfolding accepted
+wrong_length f s i p rows unsent other = rw (unsent, ne_eqb (rows_of i.signature f.rows) rows other) refl
+
+pub shapes_are_refused : ShapesAreRefused
+shapes_are_refused f s id p rows i t unsent other = delivered f s id p rows i t ∙ wrong_length f s i p rows unsent other
 
 repeated : (f : Fixed) (s : State) (i : Instance) (p rows : ℕ) → has i.sent.bits p ≡ true → accepted f s i p rows ≡ (reply.Repeat, s)
 unfolding accepted

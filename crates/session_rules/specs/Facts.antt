@@ -209,6 +209,11 @@ abbrev pub SharesAreWanted : Type 0
 SharesAreWanted = (f : Fixed) (s : State) (id p : ℕ) (i : Instance) → Kept f s → TakesPart s id p i → has i.sent.bits p ≡ false
     → (i.stage ≡ Opened) × (deliver f s id p (rows_of i.signature f.rows) ≡ counted f s i p)
 
+-- and one of another length is not
+abbrev pub ShapesAreRefused : Type 0
+ShapesAreRefused = (f : Fixed) (s : State) (id p rows : ℕ) (i : Instance) → TakesPart s id p i → has i.sent.bits p ≡ false → rows_of i.signature f.rows ≢ rows
+    → deliver f s id p rows ≡ (reply.Shape (rows_of i.signature f.rows) rows, s)
+
 -- where it has, the share is a repeat; and so it is at a complete instance
 abbrev pub SharesAreCountedOnce : Type 0
 SharesAreCountedOnce = (f : Fixed) (s : State) (id p rows : ℕ) (i : Instance) → TakesPart s id p i → has i.sent.bits p ≡ true

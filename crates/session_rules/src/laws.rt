@@ -1,5 +1,5 @@
 //! What follows from the rules, whatever is called: each function states a law, and does nothing.
-ghost use Rattle.session_rules.specs.Facts.{RefusalsChangeNothing, CallsKeep, HistoriesKeep, PartiesArePresent, CallsLeave, HistoriesLeave, KeysStay, FirstRoundsStay, TakenStays, IssueEnds, IssueIsItsMoves, MovesAreFew, CallsLeaveRest, HistoriesLeaveRest, SharesAreWanted, SharesAreCountedOnce, CompleteOnesLackNone, FewAreIssued, HistoriesIssueFew, LegalOnesGrow, NextState, BeginningsAreLegal, StatesLeadOn, LaterOnesFollow, TakenStaysOn};
+ghost use Rattle.session_rules.specs.Facts.{RefusalsChangeNothing, CallsKeep, HistoriesKeep, PartiesArePresent, CallsLeave, HistoriesLeave, KeysStay, FirstRoundsStay, TakenStays, IssueEnds, IssueIsItsMoves, MovesAreFew, CallsLeaveRest, HistoriesLeaveRest, SharesAreWanted, ShapesAreRefused, SharesAreCountedOnce, CompleteOnesLackNone, FewAreIssued, HistoriesIssueFew, LegalOnesGrow, NextState, BeginningsAreLegal, StatesLeadOn, LaterOnesFollow, TakenStaysOn};
 
 /// A reply that refuses goes with the state as it was.
 pub fn refusals()
@@ -35,9 +35,10 @@ pub fn issuing()
     ensures histories { HistoriesLeaveRest }
 {}
 
-/// Each share of an instance that isn't void is counted once.
+/// Each share of an instance that isn't void is counted once, where it has the right length.
 pub fn shares()
     ensures wanted { SharesAreWanted }
+    ensures shape { ShapesAreRefused }
     ensures once { SharesAreCountedOnce }
     ensures complete { CompleteOnesLackNone }
 {}
