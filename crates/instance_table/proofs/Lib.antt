@@ -1,0 +1,4 @@
+pub mod Added
+pub mod Issued
+pub mod Places
+pub mod Roles

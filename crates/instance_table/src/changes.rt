@@ -1,0 +1,157 @@
+ghost use Rattle.std.specs.Prelude.{◌≡◌, ◌≤◌, ◌<◌, ◌+◌, ◌-◌, ◌^◌, ℕ, [], ◌∷◌, ◌++◌, length, All, Some, IsTrue, OnOk, slice_index_or, slice_set};
+ghost use Rattle.ring_spec.specs.Ring.{IsPoly};
+ghost use Rattle.proto_names.specs.Instances.{with_fresh, after_share, after_void, after_lost};
+ghost use Rattle.instance_table.specs.Tables.{role, no_sums, rows_sum, after_rows, awaits, stands, count_of};
+ghost use Rattle.instance_table.specs.Spare.{spare};
+
+use crate::readers::place_of;
+use crate::rows::add_rows;
+use crate::steps::{after_loss, fresh, given_up, missing, outcome, with_share};
+use crate::{Brief, Count, Share, Table};
+use mod_ring::{Polys, Ring};
+use proto_names::{Instance, Signature};
+use std::alloc::AllocError;
+use std::sync::Arc;
+
+impl Table {
+    /// Makes room for so many instances: they can then be issued without memory.
+    #[tactic(auto, unfolding(crate::specs::Spare::spare))]
+    pub fn room(&mut self, instances: u32) -> Result<(), AllocError>
+        ensures room { OnOk result (instances ≤ spare self.new) }
+        ensures never_less { spare self.old ≤ spare self.new }
+        ensures instances { self.new.instances.items ≡ self.old.instances.items }
+        ensures briefs { self.new.briefs.items ≡ self.old.briefs.items }
+        ensures sums { self.new.sums.items ≡ self.old.sums.items }
+        ensures ring { self.new.params ≡ self.old.params }
+    {
+        let more = instances as usize;
+        self.instances.reserve(more)?;
+        self.briefs.reserve(more)?;
+        self.sums.reserve(more)
+    }
+
+    /// Puts an instance into the place of another, which has the same number, signature and parties.
+    #[tactic(auto, unfolding(crate::specs::Spare::spare))]
+    fn replace(&mut self, place: usize, instance: Instance)
+        requires place { place < length self.old.instances.items }
+        requires role { role instance ≡ role (slice_index_or self.old.instances.items place instance) }
+        ensures instances { self.new.instances.items ≡ slice_set self.old.instances.items place instance }
+        ensures briefs { self.new.briefs.items ≡ self.old.briefs.items }
+        ensures sums { self.new.sums.items ≡ self.old.sums.items }
+        ensures ring { self.new.params ≡ self.old.params }
+        ensures spare { spare self.new ≡ spare self.old }
+    {
+        self.instances[place] = instance;
+    }
+
+    /// Gives an instance up, because party `by` was lost.
+    #[tactic(auto, unfolding(crate::specs::Tables::stands, proto_names::specs::Instances::instance))]
+    pub fn void(&mut self, id: u32, by: u32)
+        requires stands { IsTrue (stands self.old.instances.items id) }
+        ensures instances { self.new.instances.items ≡ after_void id by self.old.instances.items }
+        ensures briefs { self.new.briefs.items ≡ self.old.briefs.items }
+        ensures sums { self.new.sums.items ≡ self.old.sums.items }
+        ensures ring { self.new.params ≡ self.old.params }
+        ensures spare { spare self.new ≡ spare self.old }
+    {
+        let place = place_of(id);
+        let instance = given_up(by, &self.instances[place]);
+        self.replace(place, instance);
+    }
+
+    /// Gives up each instance that lacks the share of party p.
+    #[tactic(auto, unfolding(proto_names::specs::Instances::after_lost))]
+    pub fn lose(&mut self, p: u32)
+        ensures instances { self.new.instances.items ≡ after_lost p self.old.instances.items }
+        ensures briefs { self.new.briefs.items ≡ self.old.briefs.items }
+        ensures sums { self.new.sums.items ≡ self.old.sums.items }
+        ensures ring { self.new.params ≡ self.old.params }
+        ensures spare { spare self.new ≡ spare self.old }
+    {
+        for place in 0..self.instances.len() {
+            let instance = after_loss(p, &self.instances[place]);
+            self.replace(place, instance);
+        }
+    }
+
+    /// Adds the rows of a share to the sums of an instance.
+    #[tactic(auto, unfolding(crate::specs::Spare::spare, crate::specs::Tables::after_rows))]
+    fn add_rows_of(&mut self, ring: &Ring, id: u32, rows: &Polys)
+        requires ring { ring.now.params ≡ self.old.params }
+        requires first { 1 ≤ id }
+        requires last { id ≤ length self.old.sums.items }
+        requires number { length rows.now ≡ length (slice_index_or self.old.sums.items (id - 1) []) }
+        requires fits { All (IsPoly ring.now.params.q ring.now.params.n) rows.now }
+        ensures sums { self.new.sums.items ≡ after_rows ring.now.params.q ring.now.params.n id rows.now self.old.sums.items }
+        ensures instances { self.new.instances.items ≡ self.old.instances.items }
+        ensures briefs { self.new.briefs.items ≡ self.old.briefs.items }
+        ensures ring { self.new.params ≡ self.old.params }
+        ensures spare { spare self.new ≡ spare self.old }
+    {
+        add_rows(ring, &mut self.sums[place_of(id)], rows);
+    }
+
+    /// Marks the share of party p for an instance as counted.
+    #[tactic(auto, using(crate::proofs::Places::awaits_issued, crate::proofs::Places::awaits_party))]
+    fn mark(&mut self, id: u32, p: u32) -> Count
+        requires { IsTrue (awaits self.old.instances.items id p) }
+        ensures count { Some result ≡ count_of self.old.instances.items id p }
+        ensures instances { self.new.instances.items ≡ after_share id p self.old.instances.items }
+        ensures briefs { self.new.briefs.items ≡ self.old.briefs.items }
+        ensures sums { self.new.sums.items ≡ self.old.sums.items }
+        ensures ring { self.new.params ≡ self.old.params }
+        ensures spare { spare self.new ≡ spare self.old }
+    {
+        let place = place_of(id);
+        let missing = missing(p, &self.instances[place]);
+        let instance = with_share(p, &self.instances[place]);
+        self.replace(place, instance);
+        outcome(missing)
+    }
+
+    /// Counts the share of a party: its rows are added to the sums of that one instance.
+    #[tactic(auto, using(crate::proofs::Places::awaits_issued))]
+    pub fn count(&mut self, ring: &Ring, share: &Share) -> Count
+        requires ring { ring.now.params ≡ self.old.params }
+        requires awaited { IsTrue (awaits self.old.instances.items share.now.id share.now.party) }
+        requires number { length share.now.rows ≡ length (slice_index_or self.old.sums.items (share.now.id - 1) []) }
+        requires fits { All (IsPoly ring.now.params.q ring.now.params.n) share.now.rows }
+        ensures count { Some result ≡ count_of self.old.instances.items share.now.id share.now.party }
+        ensures instances { self.new.instances.items ≡ after_share share.now.id share.now.party self.old.instances.items }
+        ensures sums { self.new.sums.items ≡ after_rows ring.now.params.q ring.now.params.n share.now.id share.now.rows self.old.sums.items }
+        ensures briefs { self.new.briefs.items ≡ self.old.briefs.items }
+        ensures ring { self.new.params ≡ self.old.params }
+        ensures spare { spare self.new ≡ spare self.old }
+    {
+        self.add_rows_of(ring, share.id, &share.rows);
+        self.mark(share.id, share.party)
+    }
+
+    /// Puts an instance behind the others, with its brief and with sums to which no share is added, and
+    /// gives its number.
+    #[tactic(auto, unfolding(crate::specs::Spare::spare))]
+    pub fn issue(&mut self, signature: Signature, brief: Arc<Brief>, sums: Polys) -> u32
+        requires room { 1 ≤ spare self.old }
+        requires few { length self.old.instances.items < 2 ^ 30 }
+        requires id { brief.value.id ≡ length self.old.instances.items + 1 }
+        requires signature { brief.value.signature ≡ signature }
+        requires zeros { sums ≡ no_sums self.old.params signature }
+        ensures id { result ≡ length self.old.instances.items + 1 }
+        ensures instances { self.new.instances.items ≡ with_fresh self.old.instances.items signature brief.value.set brief.value.round1 }
+        ensures briefs { self.new.briefs.items ≡ self.old.briefs.items ++ brief ∷ [] }
+        ensures sums { self.new.sums.items ≡ self.old.sums.items ++ sums ∷ [] }
+        ensures ring { self.new.params ≡ self.old.params }
+        ensures spare { spare self.new + 1 ≡ spare self.old }
+    {
+        let instance = fresh(
+            self.instances.as_slice(),
+            signature,
+            brief.set,
+            brief.round1,
+        );
+        self.instances.push_reserved(instance);
+        self.briefs.push_reserved(brief);
+        self.sums.push_reserved(sums);
+        instance.id
+    }
+}

@@ -1,0 +1,22 @@
+//! The instances of a session with their briefs and their running sums.
+//!
+//! A `Table` has a place for each instance that was issued: what it is and how far it has come, the
+//! brief that its parties are given, and the sum of the shares that were counted, row by row in the
+//! ring R_q (Mouchet et al. 2021: the helper adds up shares and nothing else). Each call leaves all
+//! other instances, their briefs and their sums as they were, and what becomes of the instance is said
+//! by `proto_names`. Once there is room no change takes memory. Nothing is said of who may send, of
+//! what a share has to be, or of when instances are issued.
+#![tactic(auto)]
+
+mod brief;
+mod changes;
+mod readers;
+mod rows;
+mod share;
+mod steps;
+mod table;
+
+pub use brief::Brief;
+pub use proto_names::{Instance, Stage};
+pub use share::{Count, Share};
+pub use table::Table;
