@@ -11,8 +11,7 @@ abbrev pub fits : ℕ → ℕ → List ℕ → Bool
 fits n t value = nat_eq (length value) n && list_all (λ x. nat_lt x t) value
 
 -- whether a node may stand at place k, for polynomials of n coefficients modulo t and so many parties:
--- its operands are earlier nodes, its owner is a party, its constant is n coefficients below t, its
--- rotation is an odd number from 3 to 2n - 1
+-- its operands are earlier nodes, its owner is a party, its rotation is an odd number from 3 to 2n - 1
 unfoldable pub may_stand : ℕ → ℕ → ℕ → ℕ → Node → Bool
 may_stand n t parties k (Input owner) = nat_le 1 owner && nat_le owner parties
 may_stand n t parties k (Const value) = fits n t value

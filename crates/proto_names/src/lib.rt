@@ -3,7 +3,8 @@
 //! A `Signature` names a protocol and what it is for; an `Instance` is one run of it by some parties.
 //! A `PartySet` is the bits of a number, of which bit p - 1 stands for party p, 1 to 32. An instance
 //! of a protocol and an input of a circuit each have a stream of their own: callers may rely on it
-//! that no two of them share one. Which instances are run when is said elsewhere.
+//! that no two of them share one, so that no word of a seed is drawn twice. Which instances are run
+//! when is said elsewhere.
 #![tactic(auto)]
 
 mod instance;
