@@ -2,3 +2,4 @@ pub mod Added
 pub mod Issued
 pub mod Places
 pub mod Roles
+pub mod Orders

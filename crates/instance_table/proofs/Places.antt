@@ -1,11 +1,12 @@
 -- The instance with a number stands at the place before it, so what becomes of that one alone is written
 -- at one place.
-use Rattle.std.proofs.Common.{◌≡◌, ◌≢◌, ℕ, ◌+◌, ◌-◌, ◌<◌, ◌≤◌, List, map, length, get_or, set, ap, sym, ◌∙◌, refl, arith, length-set}
-use Rattle.std.specs.Prelude.{IsTrue, Some}
+use Rattle.std.proofs.Common.{◌≡◌, ◌≢◌, ℕ, ◌+◌, ◌-◌, ◌<◌, ◌≤◌, List, map, length, get_or, set, ap, sym, ◌∙◌, refl, arith, length-set, Bor}
+use Rattle.std.specs.Prelude.{All, IsTrue, Option, Some, None, IfSome, option_map, option_copied}
 use Rattle.std.specs.List.{range_with_len, slice_get}
 use Rattle.std.proofs.lemmas.List.{ext_get_or, get_or-map, length-map}
+use Rattle.std.proofs.lemmas.List.Elements.{All-get_or}
 use Rattle.std.proofs.lemmas.List.FromFn.{get_or-range_with_len}
-use Rattle.std.proofs.lemmas.Option.{slice_get_within, slice_get_read, get_or_from_slice_get}
+use Rattle.std.proofs.lemmas.Option.{slice_get_within, slice_get_read, slice_get-map, get_or_from_slice_get}
 use Rattle.std.proofs.lemmas.Grind.{common_steps}
 use Rattle.std.proofs.lemmas.Bool.Decides.{nat_tests}
 use Rattle.share_spec.specs.Sets.{has}
@@ -82,3 +83,28 @@ lengths_from_maps f g xs ys e = sym (length-map xs f) ∙ ap length e ∙ length
 pub told_entry : {X : Type 0} (is : List Instance) (xs : List X) (id : ℕ) (x d : X) → told is xs id ≡ Some x → get_or xs (id - 1) d ≡ x
 unfolding told
 told_entry is xs id x d e = grind (arith, common_steps, get_or_from_slice_get)
+
+-- and that entry agrees with the instance, where the lists do
+pub told_of : {X Y : Type 0} (f : X → Y) (g : Instance → Y) (is : List Instance) (xs : List X) (id : ℕ) (x : X) → map f xs ≡ map g is →
+    told is xs id ≡ Some x → Some (f x) ≡ option_map g (instance is id)
+unfolding told stands instance
+told_of f g is xs id x e t =
+    let a = slice_get-map f xs (id - 1) in let b = slice_get-map g is (id - 1) in
+    grind (arith, common_steps, nat_tests, a, b)
+
+pub told_agrees : {X Y : Type 0} (f : X → Y) (g : Instance → Y) (is : List Instance) (xs : List X) (id : ℕ) (r : Option (Bor X)) → map f xs ≡ map g is →
+    option_copied r ≡ told is xs id → IfSome r (λ x. Some (f x.now) ≡ option_map g (instance is id))
+told_agrees f g is xs id None e t = tt
+told_agrees f g is xs id (Some x) e t = told_of f g is xs id x.now e (sym t)
+
+-- and has what each entry has
+told_within : {X : Type 0} (is : List Instance) (xs : List X) (id : ℕ) (x : X) → told is xs id ≡ Some x → id - 1 < length xs
+unfolding told
+told_within is xs id x t = grind (arith, common_steps, slice_get_within)
+
+pub told_each : {X : Type 0} (P : X → Type 0) (is : List Instance) (xs : List X) (id : ℕ) (r : Option (Bor X)) → All P xs →
+    option_copied r ≡ told is xs id → IfSome r (λ x. P x.now)
+told_each P is xs id None a t = tt
+told_each P is xs id (Some x) a t =
+    let here : get_or xs (id - 1) x.now ≡ x.now = told_entry is xs id x.now x.now (sym t) in
+    rw here at (All-get_or P xs (id - 1) x.now (told_within is xs id x.now (sym t)) a)

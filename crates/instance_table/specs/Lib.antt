@@ -1,2 +1,3 @@
 pub mod Tables
 pub mod Spare
+pub mod Totals

@@ -1,7 +1,8 @@
-ghost use Rattle.std.specs.Prelude.{◌≡◌, ◌≤◌, ◌-◌, ◌↔◌, ℕ, length, IfOk, IsSome, IsTrue, option_copied};
+ghost use Rattle.std.specs.Prelude.{◌≡◌, ◌≤◌, ◌-◌, ◌↔◌, ℕ, length, All, Some, IfOk, IfSome, IsSome, IsTrue, option_copied, option_map};
+ghost use Rattle.ring_spec.specs.Ring.{IsPoly};
 ghost use Rattle.proto_names.specs.Names.{is_void};
 ghost use Rattle.proto_names.specs.Instances.{instance, lacks, owed_shares};
-ghost use Rattle.instance_table.specs.Tables.{stands, told};
+ghost use Rattle.instance_table.specs.Tables.{role, role_told, row_count, row_counts, stands, told};
 
 use crate::{Brief, Table};
 use mod_ring::Polys;
@@ -86,8 +87,7 @@ impl Table {
     fn stands(&self, id: u32) -> bool
         ensures value { result ≡ stands self.now.instances.items id }
         ensures first { IsTrue result → 1 ≤ id }
-        ensures of_briefs { IsTrue result → id ≤ length self.now.briefs.items }
-        ensures of_sums { IsTrue result → id ≤ length self.now.sums.items }
+        ensures last { IsTrue result → id ≤ length self.now.instances.items }
     {
         match self.find(id) {
             None => false,
@@ -95,30 +95,37 @@ impl Table {
         }
     }
 
-    /// What the parties of an instance are told, if it was issued and isn't void.
+    /// The entry of an instance in a list that goes by instances, if it was issued and isn't void.
     #[tactic(auto, unfolding(crate::specs::Tables::told))]
-    pub fn brief(&self, id: u32) -> Option<&Arc<Brief>>
-        ensures value { option_copied result ≡ told self.now.instances.items self.now.briefs.items id }
+    fn entry_of<'a, T>(&self, id: u32, entries: &'a [T]) -> Option<&'a T>
+        requires { length entries.now ≡ length self.now.instances.items }
+        ensures value { option_copied result ≡ told self.now.instances.items entries.now id }
         ensures while_it_stands { IsSome result ↔ IsTrue (stands self.now.instances.items id) }
     {
         if self.stands(id) {
-            self.briefs.get(place_of(id))
+            entries.get(place_of(id))
         } else {
             None
         }
     }
 
+    /// What the parties of an instance are told, if it was issued and isn't void.
+    pub fn brief(&self, id: u32) -> Option<&Arc<Brief>>
+        ensures value { option_copied result ≡ told self.now.instances.items self.now.briefs.items id }
+        ensures while_it_stands { IsSome result ↔ IsTrue (stands self.now.instances.items id) }
+        ensures role { IfSome result (λ brief. Some (role_told brief.now) ≡ option_map role (instance self.now.instances.items id)) }
+    {
+        self.entry_of(id, self.briefs.as_slice())
+    }
+
     /// The sums of an instance, if it was issued and isn't void.
-    #[tactic(auto, unfolding(crate::specs::Tables::told))]
     pub fn sums(&self, id: u32) -> Option<&Polys>
         ensures value { option_copied result ≡ told self.now.instances.items self.now.sums.items id }
         ensures while_it_stands { IsSome result ↔ IsTrue (stands self.now.instances.items id) }
+        ensures rows { IfSome result (λ sums. Some (row_count sums.now) ≡ option_map (row_counts self.now.params) (instance self.now.instances.items id)) }
+        ensures fits { IfSome result (λ sums. All (IsPoly self.now.params.q self.now.params.n) sums.now) }
     {
-        if self.stands(id) {
-            self.sums.get(place_of(id))
-        } else {
-            None
-        }
+        self.entry_of(id, self.sums.as_slice())
     }
 
     /// The numbers of the instances that lack the share of party p, rising.
