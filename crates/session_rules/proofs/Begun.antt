@@ -43,5 +43,5 @@ abbrev IsRefused : Type 0
 IsRefused = begins_as larger squared (first_over larger squared) ≡ Refused (AtNode 3) 111605518906659599873 985162418487295
 
 pub all : IsIdle × Turns × IsRefused
-unfolding circuits.may_stand circuits.first_wrong circuits.first_fault circuits.owners bounds.switched bounds.crossed bounds.rounding bounds.input_bound bounds.sum_bound bounds.neg_bound bounds.plain_mul_bound bounds.rot_bound bounds.mul_bound bounds.output_bound ledger.product_bound ledger.node_bound ledger.bounds_from ledger.node_bounds ledger.place_bound ledger.first_above ledger.first_over fixing.begins_as fixing.plan_of fixing.fixed_of lib.Count.count_leading_zeros
+unfolding circuits.may_stand circuits.first_wrong circuits.first_fault circuits.owners bounds.switched bounds.crossed bounds.rounding bounds.input_bound bounds.sum_bound bounds.neg_bound bounds.plain_mul_bound bounds.rot_bound bounds.mul_bound bounds.output_bound ledger.product_bound ledger.node_bound ledger.bounds_from ledger.node_bounds ledger.place_bound ledger.first_above ledger.first_over fixing.begins_as fixing.plan_of fixing.fixed_from lib.Count.count_leading_zeros
 all = (refl, refl, refl)

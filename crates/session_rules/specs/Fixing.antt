@@ -1,5 +1,5 @@
 -- The fixed data of a session, from the numbers of its parameters and its circuits.
-use Rattle.std.specs.Prelude.{ℕ, ◌*◌, Bool, ◌&&◌, List, map, filter, Option, Some, None}
+use Rattle.std.specs.Prelude.{ℕ, ◌*◌, Bool, nat_eq, ◌&&◌, List, map, filter, Option, Some, None}
 use Rattle.std.specs.List.{range_with_len, list_any}
 use Rattle.param_set.specs.Numbers.{digit_rows}
 use Rattle.circuit_form.specs.declared.node.Node.{Node}
@@ -30,18 +30,21 @@ plan_of p nodes =
       opening = begins_as p nodes (first_over p nodes);
     }
 
--- whether an admitted circuit rotates by g
-abbrev pub admits_turn : Numbers → ℕ → List Node → Bool
-admits_turn p g nodes = is_admitted (plan_of p nodes) && has_rot g nodes
+-- whether a circuit is admitted and rotates by g, and whether one of some is
+abbrev pub admits_turn : ℕ → Plan → Bool
+admits_turn g plan = is_admitted plan && list_any (nat_eq g) plan.turns
 
-abbrev pub is_turned : Numbers → List (List Node) → ℕ → Bool
-is_turned p circuits g = list_any (admits_turn p g) circuits
+abbrev pub is_turned : List Plan → ℕ → Bool
+is_turned plans g = list_any (admits_turn g) plans
 
-unfoldable pub fixed_of : Numbers → List (List Node) → Fixed
-fixed_of p circuits =
+unfoldable pub fixed_from : Numbers → List Plan → Fixed
+fixed_from p plans =
     record {
       threshold = p.threshold;
       rows = digit_rows p.q p.digit_bits;
-      plans = map (plan_of p) circuits;
-      turns = filter (is_turned p circuits) (range_with_len 0 (2 * p.n));
+      plans = plans;
+      turns = filter (is_turned plans) (range_with_len 0 (2 * p.n));
     }
+
+abbrev pub fixed_of : Numbers → List (List Node) → Fixed
+fixed_of p circuits = fixed_from p (map (plan_of p) circuits)

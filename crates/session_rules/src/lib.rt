@@ -10,6 +10,7 @@
 
 mod call;
 mod fixed;
+mod fixing;
 mod given;
 mod issue;
 pub mod laws;
@@ -23,11 +24,13 @@ mod state;
 
 pub use call::{Call, Entry};
 pub use fixed::{Fixed, Plan, PlanList};
+pub use fixing::plan_of;
 pub use given::Given;
-pub use issue::has_done;
+pub use issue::{has_done, has_live};
 pub use line::Line;
 pub use moves::Move;
 pub use noise_ledger::Place;
+pub use owed::owed_inputs;
 pub use planning::planned_moves;
 pub use ready::{is_ready, next_ready};
 pub use reply::Reply;
