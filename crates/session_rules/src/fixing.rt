@@ -1,5 +1,5 @@
 //! The fixed data of a session, from its parameters and its circuits.
-ghost use Rattle.std.specs.Prelude.{◌≡◌, ◌*◌, [], ◌∷◌, ◌++◌, None, IfOk, cond, nat_eq, filter, map};
+ghost use Rattle.std.specs.Prelude.{◌≡◌, ◌+◌, ◌*◌, ◌≤◌, [], ◌∷◌, ◌++◌, None, IfOk, cond, nat_eq, filter, map, length};
 ghost use Rattle.std.specs.List.{range_with_len, list_any};
 ghost use Rattle.circuit_form.specs.Circuits.{first_fault, owners};
 ghost use Rattle.noise_ledger.specs.Bounds.{numbers_of};
@@ -122,7 +122,8 @@ impl Fixed {
     /// The keys that admitted circuits need, in the order in which they are issued.
     #[tactic(auto, unfolding(crate::specs::Issues::keys))]
     pub fn keys(&self, alloc: Global) -> Result<Vec<Signature>, AllocError>
-        ensures { IfOk result (λ v. v.items ≡ keys self.now) }
+        ensures keys { IfOk result (λ v. v.items ≡ keys self.now) }
+        ensures few { IfOk result (λ v. length v.items ≤ 3 + length self.now.turns) }
     {
         let mut keys = key_of_inputs(alloc, self.plans.as_slice())?;
         let rounds = keys_of_products(alloc, self.plans.as_slice())?;
@@ -135,7 +136,8 @@ impl Fixed {
 
 /// The public key, if an admitted circuit has an input.
 fn key_of_inputs(alloc: Global, plans: &[Plan]) -> Result<Vec<Signature>, AllocError>
-    ensures { IfOk result (λ v. v.items ≡ cond (list_any wants_key plans.now) (Pk ∷ []) []) }
+    ensures keys { IfOk result (λ v. v.items ≡ cond (list_any wants_key plans.now) (Pk ∷ []) []) }
+    ensures few { IfOk result (λ v. length v.items ≤ 1) }
 {
     if any_wants_key(plans) {
         Ok(vec![in alloc; Signature::Pk]?)
@@ -146,7 +148,8 @@ fn key_of_inputs(alloc: Global, plans: &[Plan]) -> Result<Vec<Signature>, AllocE
 
 /// Both rounds of the relinearisation key, if an admitted circuit has a full product.
 fn keys_of_products(alloc: Global, plans: &[Plan]) -> Result<Vec<Signature>, AllocError>
-    ensures { IfOk result (λ v. v.items ≡ cond (list_any wants_relin plans.now) (Rlk1 ∷ Rlk2 ∷ []) []) }
+    ensures keys { IfOk result (λ v. v.items ≡ cond (list_any wants_relin plans.now) (Rlk1 ∷ Rlk2 ∷ []) []) }
+    ensures few { IfOk result (λ v. length v.items ≤ 2) }
 {
     if any_wants_relin(plans) {
         Ok(vec![in alloc; Signature::Rlk1, Signature::Rlk2]?)
@@ -157,7 +160,8 @@ fn keys_of_products(alloc: Global, plans: &[Plan]) -> Result<Vec<Signature>, All
 
 /// The keys of some rotations.
 fn keys_of_turns(alloc: Global, turns: &[u32]) -> Result<Vec<Signature>, AllocError>
-    ensures { IfOk result (λ v. v.items ≡ map Rot turns.now) }
+    ensures keys { IfOk result (λ v. v.items ≡ map Rot turns.now) }
+    ensures few { IfOk result (λ v. length v.items ≡ length turns.now) }
 {
     turns.iter().map(|g| Signature::Rot(*g)).collect(alloc)
 }
