@@ -1,3 +1,4 @@
 pub mod EntriesLemmas
 pub mod FitsLemmas
+pub mod PieceLemmas
 mod Instances

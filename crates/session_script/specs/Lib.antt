@@ -1,3 +1,10 @@
 pub mod Words
 pub mod Form
 pub mod Reading
+pub mod Lines
+pub mod Asked
+pub mod Checks
+pub mod Heads
+pub mod CircuitLines
+pub mod LaneLines
+pub mod Scripts

@@ -1,17 +1,41 @@
 //! The script of a session: what it asks for, read from its bytes.
 //!
-//! A script is lines of words that give the parameters, the master seed and the circuits, as
-//! docs/FORMATS.md says. So far one form is read: one party adds two inputs of its own. `read_form`
-//! answers Ok exactly where the bytes have this form, but for want of memory, and the script is then
-//! the one that they spell: `specs/Form.antt` says which. Its parameters are those of
-//! `Params::frame` for one party, and each value has n entries below t. No line is copied.
+//! A script is lines of words that give the parameters, the master seed, the circuits with the values of
+//! their inputs, and the lanes of those that act, as docs/FORMATS.md says. `read_script` reads the whole
+//! language: it answers the script that `specs/Scripts.antt` defines, or the first line that breaks a
+//! rule with the first reason in the order of `Reason`, and nothing else but for want of memory.
+//! `read_form` reads one form alone, in which one party adds two inputs of its own, and tells no
+//! reasons (`specs/Form.antt`). No line is copied. What a script means is not said here.
 #![tactic(auto)]
 
+mod checks;
+mod circuit_name;
+mod circuit_statements;
 mod form;
+mod frame;
+mod head_statements;
+mod lane_statements;
+mod lanes;
+mod language;
+#[cfg(test)]
+mod language_tests;
+mod lines;
+mod named_circuit;
+mod named_circuits;
+mod node_list;
+mod node_statements;
+mod place;
+mod reason;
 mod script;
 #[cfg(test)]
 mod tests;
 mod words;
 
 pub use form::read_form;
+pub use lanes::{Lane, Lanes};
+pub use language::{Script as WholeScript, read_script};
+pub use named_circuit::NamedCircuit;
+pub use named_circuits::NamedCircuits;
+pub use reason::{Reason, ScriptStop};
 pub use script::{FormStop, Script};
+pub use session_rules::Line;

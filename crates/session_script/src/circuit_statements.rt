@@ -1,0 +1,126 @@
+ghost use Rattle.std.specs.Prelude.{◌≡◌, ◌<◌, [], length, not};
+ghost use Rattle.std.specs.List.{list_any};
+ghost use Rattle.session_script.specs.Words.{texts};
+ghost use Rattle.session_script.specs.Checks.{Follows};
+ghost use Rattle.session_script.specs.CircuitLines.{is_name, is_name_byte, has_name, circuit_statement, with_circuit, circuit_end, in_circuit, with_node, other_node};
+
+use crate::checks::unless;
+use crate::circuit_name::CircuitName;
+use crate::lines::{leads, word_at};
+use crate::named_circuit::NamedCircuit;
+use crate::named_circuits::NamedCircuits;
+use crate::node_list::NodeList;
+use crate::node_statements::{input_statement, other_node, rot_statement};
+use crate::place::{Draft, OpenCircuit, Place};
+use crate::reason::{Fault, Reason};
+use circuit_form::Circuit;
+use param_set::Plains;
+use std::alloc::Global;
+
+/// Whether all bytes may stand in a name.
+fn all_name_bytes(word: &[u8]) -> bool
+    ensures { result ≡ Rattle.std.specs.List.list_all is_name_byte word.now }
+{
+    word.iter()
+        .all(|b| matches!(*b, b'a'..=b'z' | b'0'..=b'9' | b'_'))
+}
+
+/// Whether the first byte is a letter.
+fn begins_with_letter(word: &[u8]) -> bool
+    ensures { result ≡ Rattle.session_script.specs.CircuitLines.begins_with_letter word.now }
+{
+    match word.first() {
+        Some(b) => matches!(*b, b'a'..=b'z'),
+        None => false,
+    }
+}
+
+/// Whether a word is a name: 1 to 16 bytes of `a` to `z`, `0` to `9` and `_`, the first a letter.
+#[tactic(auto, unfolding(crate::specs::CircuitLines::is_name))]
+fn is_name(word: &[u8]) -> bool
+    ensures { result ≡ is_name word.now }
+{
+    word.len() <= 16 && begins_with_letter(word) && all_name_bytes(word)
+}
+
+/// Whether some circuit has a name.
+fn is_taken(circuits: &NamedCircuits, name: &[u8]) -> bool
+    ensures { result ≡ list_any (has_name name.now) circuits.now }
+{
+    circuits
+        .as_slice()
+        .iter()
+        .any(|circuit| circuit.name() == name)
+}
+
+/// `circuit NAME`
+#[tactic(auto, unfolding(crate::specs::CircuitLines::circuit_statement))]
+pub(crate) fn circuit_statement(
+    alloc: Global,
+    draft: Draft,
+    words: &[&[u8]],
+) -> Result<Place, Fault>
+    ensures { Follows (circuit_statement draft (texts words.now)) result }
+{
+    unless(words.len() == 2, Reason::Word)?;
+    unless(draft.circuits.len() < 64, Reason::Limit)?;
+    let name = word_at(words, 1);
+    unless(is_name(name), Reason::Name)?;
+    unless(!is_taken(&draft.circuits, name), Reason::Name)?;
+    let begun = OpenCircuit {
+        name: CircuitName::copied(alloc, name)?,
+        nodes: NodeList::new(alloc),
+        values: Plains::new(alloc),
+    };
+    Ok(Place::InCircuit { draft, begun })
+}
+
+/// `end` behind nodes.
+#[tactic(auto, unfolding(crate::specs::CircuitLines::circuit_end))]
+fn circuit_end(
+    alloc: Global,
+    draft: Draft,
+    begun: OpenCircuit,
+    words: &[&[u8]],
+) -> Result<Place, Fault>
+    ensures { Follows (circuit_end draft begun (texts words.now)) result }
+{
+    unless(words.len() == 1, Reason::Word)?;
+    let mut draft = draft;
+    let OpenCircuit {
+        name,
+        nodes,
+        values,
+    } = begun;
+    let Ok(circuit) = Circuit::new(draft.frame.params(), nodes.into_vec()) else {
+        return Err(Fault::from(Reason::Node));
+    };
+    let named = NamedCircuit::new(alloc, name, circuit, values)?;
+    draft.circuits.push(named)?;
+    Ok(Place::Circuits { draft })
+}
+
+/// A line in a circuit.
+#[tactic(auto, unfolding(crate::specs::CircuitLines::in_circuit))]
+pub(crate) fn in_circuit(
+    alloc: Global,
+    draft: Draft,
+    begun: OpenCircuit,
+    words: &[&[u8]],
+) -> Result<Place, Fault>
+    ensures { Follows (in_circuit draft begun (texts words.now)) result }
+{
+    if leads("input", words) {
+        return input_statement(alloc, draft, begun, words);
+    }
+    if leads("rot", words) {
+        return rot_statement(draft, begun, words);
+    }
+    if leads("end", words) {
+        return circuit_end(alloc, draft, begun, words);
+    }
+    let node = other_node(alloc, &draft, &begun, words)?;
+    let mut begun = begun;
+    begun.nodes.push(node)?;
+    Ok(Place::InCircuit { draft, begun })
+}

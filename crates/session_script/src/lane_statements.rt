@@ -1,0 +1,177 @@
+ghost use Rattle.std.specs.Prelude.{◌≡◌, ◌<◌, ◌++◌, replicate, IfOk};
+ghost use Rattle.session_rules.specs.declared.line.Line.TheVariants.{Work};
+ghost use Rattle.session_script.specs.Words.{texts};
+ghost use Rattle.session_script.specs.Checks.{Follows};
+ghost use Rattle.session_script.specs.LaneLines.{lane_statement, has_line_left, lone_party, hold_line, lone_line, lane_line, lane_end, in_lane, workers_statement};
+
+use crate::checks::{number_at, party, unless};
+use crate::lanes::{Lane, Lanes};
+use crate::lines::leads;
+use crate::place::{Draft, Place};
+use crate::reason::{Fault, Reason};
+use session_rules::Line;
+use std::alloc::{AllocError, Global};
+
+/// `lane`
+#[tactic(auto, unfolding(crate::specs::LaneLines::lane_statement))]
+pub(crate) fn lane_statement(alloc: Global, draft: Draft, words: &[&[u8]]) -> Result<Place, Reason>
+    ensures { result ≡ lane_statement draft (texts words.now) }
+{
+    unless(words.len() == 1, Reason::Word)?;
+    unless(draft.lanes.len() < 8, Reason::Limit)?;
+    let lane = Lane::new(alloc);
+    Ok(Place::InLane { draft, lane })
+}
+
+/// Whether one more line of a lane may stand.
+fn has_line_left(draft: &Draft) -> bool
+    ensures { result ≡ has_line_left draft.now }
+{
+    draft.lines < 4096
+}
+
+/// The party of `join p`, `lose p` and `send p`.
+#[tactic(auto, unfolding(crate::specs::LaneLines::lone_party))]
+fn lone_party(draft: &Draft, words: &[&[u8]]) -> Result<u32, Reason>
+    ensures party { result ≡ lone_party draft.now (texts words.now) }
+    ensures room { IfOk result (λ _. draft.now.lines < 4096) }
+{
+    unless(words.len() == 2, Reason::Word)?;
+    let p = number_at(words, 1)?;
+    unless(has_line_left(draft), Reason::Limit)?;
+    party(&draft.frame, p)
+}
+
+/// `hold p i`
+#[tactic(auto, unfolding(crate::specs::LaneLines::hold_line))]
+fn hold_line(draft: &Draft, words: &[&[u8]]) -> Result<Line, Reason>
+    ensures line { result ≡ hold_line draft.now (texts words.now) }
+    ensures room { IfOk result (λ _. draft.now.lines < 4096) }
+{
+    unless(words.len() == 3, Reason::Word)?;
+    let given = number_at(words, 1)?;
+    let id = number_at(words, 2)?;
+    unless(has_line_left(draft), Reason::Limit)?;
+    let p = party(&draft.frame, given)?;
+    unless(1 <= id && id < 1 << 32, Reason::Id)?;
+    Ok(Line::Hold { p, id: id as u32 })
+}
+
+/// `give`, `work` and `quit`
+#[tactic(auto, unfolding(crate::specs::LaneLines::lone_line))]
+fn lone_line(draft: &Draft, said: Line, words: &[&[u8]]) -> Result<Line, Reason>
+    ensures line { result ≡ lone_line draft.now said (texts words.now) }
+    ensures room { IfOk result (λ _. draft.now.lines < 4096) }
+{
+    unless(words.len() == 1, Reason::Word)?;
+    unless(has_line_left(draft), Reason::Limit)?;
+    Ok(said)
+}
+
+/// A line of a lane.
+#[tactic(auto, unfolding(crate::specs::LaneLines::lane_line))]
+fn lane_line(draft: &Draft, words: &[&[u8]]) -> Result<Line, Reason>
+    ensures line { result ≡ lane_line draft.now (texts words.now) }
+    ensures room { IfOk result (λ _. draft.now.lines < 4096) }
+{
+    if leads("join", words) {
+        let p = lone_party(draft, words)?;
+        Ok(Line::Join { p })
+    } else if leads("lose", words) {
+        let p = lone_party(draft, words)?;
+        Ok(Line::Lose { p })
+    } else if leads("send", words) {
+        let p = lone_party(draft, words)?;
+        Ok(Line::Send { p })
+    } else if leads("hold", words) {
+        hold_line(draft, words)
+    } else if leads("give", words) {
+        lone_line(draft, Line::Give, words)
+    } else if leads("work", words) {
+        lone_line(draft, Line::Work, words)
+    } else if leads("quit", words) {
+        lone_line(draft, Line::Quit, words)
+    } else {
+        Err(Reason::Word)
+    }
+}
+
+/// `end` behind the lines of a lane.
+#[tactic(auto, unfolding(crate::specs::LaneLines::lane_end))]
+fn lane_end(draft: Draft, lane: Lane, words: &[&[u8]]) -> Result<Place, Fault>
+    ensures { Follows (lane_end draft lane (texts words.now)) result }
+{
+    unless(words.len() == 1, Reason::Word)?;
+    let mut draft = draft;
+    draft.lanes.push(lane)?;
+    Ok(Place::Lanes { draft })
+}
+
+/// A line in a lane.
+#[tactic(auto, unfolding(crate::specs::LaneLines::in_lane))]
+pub(crate) fn in_lane(draft: Draft, lane: Lane, words: &[&[u8]]) -> Result<Place, Fault>
+    ensures { Follows (in_lane draft lane (texts words.now)) result }
+{
+    if leads("end", words) {
+        return lane_end(draft, lane, words);
+    }
+    let said = lane_line(&draft, words)?;
+    let (mut draft, mut lane) = (draft, lane);
+    draft.lines += 1;
+    lane.push(said)?;
+    Ok(Place::InLane { draft, lane })
+}
+
+/// The lanes with those of workers behind them.
+fn with_workers(
+    alloc: Global,
+    lanes: Lanes,
+    workers: usize,
+    jobs: usize,
+) -> Result<Lanes, AllocError>
+    ensures { IfOk result (λ made. made ≡ lanes ++ replicate workers (replicate jobs Work)) }
+{
+    let mut made = lanes;
+    'workers: for _ in 0..workers {
+        made.push(Lane::of_work(alloc, jobs)?)?;
+    }
+    Ok(made)
+}
+
+/// `workers W K`
+#[tactic(auto, unfolding(crate::specs::LaneLines::workers_statement))]
+pub(crate) fn workers_statement(
+    alloc: Global,
+    draft: Draft,
+    words: &[&[u8]],
+) -> Result<Place, Fault>
+    ensures { Follows (workers_statement draft (texts words.now)) result }
+{
+    unless(words.len() == 3, Reason::Word)?;
+    let workers = number_at(words, 1)?;
+    let jobs = number_at(words, 2)?;
+    unless(workers <= 8 && jobs <= 256, Reason::Limit)?;
+    let Draft {
+        frame,
+        master,
+        present,
+        circuits,
+        inputs,
+        turns,
+        lanes,
+        lines,
+    } = draft;
+    let lanes = with_workers(alloc, lanes, workers as usize, jobs as usize)?;
+    Ok(Place::Closing {
+        draft: Draft {
+            frame,
+            master,
+            present,
+            circuits,
+            inputs,
+            turns,
+            lanes,
+            lines,
+        },
+    })
+}
