@@ -30,6 +30,15 @@ fn changed(alloc: Global, line: usize, text: &str) -> Result<String, AllocError>
     Ok(script)
 }
 
+// What is read from a short text.
+fn read(alloc: Global, text: &str) -> Result<WholeScript, ScriptStop> {
+    let bytes = text.as_bytes();
+    if bytes.len() > 1_048_576 {
+        return Err(ScriptStop::NoMemory);
+    }
+    read_script(alloc, bytes)
+}
+
 #[test]
 fn refuses_by_each_reason(rt: HostRuntime) -> Result<(), Fail> {
     let alloc = rt.alloc();
@@ -74,7 +83,7 @@ fn refuses_by_each_reason(rt: HostRuntime) -> Result<(), Fail> {
     ];
     for (line, text, at, wanted) in rows {
         let script = changed(alloc, line, text)?;
-        match read_script(alloc, script.as_bytes()) {
+        match read(alloc, &script) {
             Err(ScriptStop::Refused { line, reason }) => {
                 assert_eq!(rt; line, at, "{text}");
                 assert_eq!(rt; reason, wanted, "{text}");
@@ -118,7 +127,7 @@ done
 
 // The script of every statement.
 fn whole(alloc: Global) -> Result<WholeScript, ScriptStop> {
-    read_script(alloc, WHOLE.as_bytes())
+    read(alloc, WHOLE)
 }
 
 #[test]
