@@ -1,4 +1,6 @@
 pub mod EntriesLemmas
 pub mod FitsLemmas
+pub mod KeptLemmas
 pub mod PieceLemmas
 mod Instances
+mod RefusedScripts

@@ -8,3 +8,4 @@ pub mod Heads
 pub mod CircuitLines
 pub mod LaneLines
 pub mod Scripts
+pub mod Kept

@@ -1,5 +1,5 @@
 -- A script from its bytes: the lines one after the other, with what is known at each.
-use Rattle.std.specs.Prelude.{◌≡◌, ℕ, ◌+◌, not, if◌then◌else◌, List, [], ◌∷◌, codes, Result, Ok, Err, ⊤}
+use Rattle.std.specs.Prelude.{◌≡◌, ℕ, ◌+◌, if◌then◌else◌, List, [], ◌∷◌, codes, Result, Ok, Err, ⊤}
 use Rattle.session_script.specs.declared.reason.Reason.{Reason}
 use Rattle.session_script.specs.declared.reason.Reason.TheVariants as reason
 use Rattle.session_script.specs.declared.reason.Fault.{Fault}

@@ -1,0 +1,357 @@
+-- The circuits of each accepted script are circuits with fitting values: an invariant of the places.
+use Rattle.std.proofs.Common.{◌≡◌, ℕ, ◌+◌, ◌-◌, ◌<◌, ◌≤◌, Bool, true, false, cond, not, ◌&&◌, List, [], ◌∷◌, ◌++◌, length, replicate, All, Option, Some, None, Result, Ok, Err, IfOk, refl, ap, arith, nat_le, nat_lt, leb-true, ltb-true, drop, is_none, if◌then◌else◌, codes, ◌==◌}
+use Rattle.std.specs.Prelude.{⊤}
+use Rattle.std.specs.List.{list_all, list_any}
+use Rattle.std.proofs.lemmas.List.{length-append, length-replicate}
+use Rattle.std.proofs.lemmas.List.Elements.{All-append, All-replicate, All-cons, All-nil}
+use Rattle.std.proofs.lemmas.List.Sums.{AllPass-from_list_all}
+use Rattle.std.proofs.lemmas.Result.{IfOk-at_ok}
+use Rattle.ring_spec.specs.Ring.{IsPoly}
+use Rattle.param_set.specs.declared.raw.RawParams.{RawParams}
+use Rattle.param_set.specs.declared.raw.Field.{Field}
+use Rattle.param_set.specs.Rules.{first_bad, root_power, is_degree, is_modulus, within}
+use Rattle.circuit_form.specs.declared.node.Node.{Node}
+use Rattle.circuit_form.specs.declared.node.Node.TheVariants as node
+use Rattle.circuit_form.specs.Circuits.{owners}
+use Rattle.session_rules.specs.declared.line.Line.{Line}
+use Rattle.session_script.specs.declared.reason.Reason.{Reason}
+use Rattle.session_script.specs.declared.reason.Reason.TheVariants as reason
+use Rattle.session_script.specs.declared.place.Draft.{Draft}
+use Rattle.session_script.specs.declared.place.OpenCircuit.{OpenCircuit}
+use Rattle.session_script.specs.declared.place.Place.{Place}
+use Rattle.session_script.specs.declared.place.Place.TheVariants as place
+use Rattle.session_script.specs.Form.{filled}
+use Rattle.session_script.specs.Lines.{words, word_at, leads, all_plain, is_skipped}
+use Rattle.session_script.specs.Checks.{◌>>=◌, unless, is_statement, number_at, numbers_behind, party}
+use Rattle.session_script.specs.Asked.{Numbers, Named, Asked}
+use Rattle.session_script.specs.Heads.{version_statement, given_params, judged, params_statement, master_seed, seed_statement, rising, present_statement}
+use Rattle.session_script.specs.CircuitLines.{is_name, has_name, circuit_statement, has_room, is_earlier, plain, input_statement, const_node, operands, neg_node, may_turn, is_turn, rot_statement, other_node, is_circuit, circuit_end, in_circuit, with_node}
+use Rattle.session_script.specs.LaneLines.{lane_statement, lane_line, lane_end, in_lane, workers_statement}
+use Rattle.session_script.specs.Scripts.{done_statement, between_lanes, between_circuits, statement, spoken, after_line, Refusal, ended, past_line, read_from}
+use Rattle.session_script.specs.Kept.{IsNamed, AreNamed}
+
+-- ---- checks
+
+-- past a check, its test holds
+past_test : {B : Type 0} (P : B → Type 0) (test : Bool) (r : Reason) (next : Unit {0} → Result B Reason) → (test ≡ true → IfOk (next tt) P) → IfOk (unless test r >>= next) P
+past_test P true r next k = k refl
+past_test P false r next k = tt
+
+-- past a step, there is its value
+past : {A B : Type 0} (P : B → Type 0) (step : Result A Reason) (next : A → Result B Reason) → ((x : A) → step ≡ Ok x → IfOk (next x) P) → IfOk (step >>= next) P
+past P (Ok x) next k = k x refl
+past P (Err r) next k = tt
+
+-- past a step of whose value this is known
+past_known : {A B : Type 0} (Q : A → Type 0) (P : B → Type 0) (step : Result A Reason) (next : A → Result B Reason) → IfOk step Q → ((x : A) → Q x → IfOk (next x) P) → IfOk (step >>= next) P
+past_known Q P (Ok x) next known k = k x known
+past_known Q P (Err r) next known k = tt
+
+-- of both ways of a choice
+either : {B : Type 0} (P : B → Type 0) (test : Bool) (one other : Result B Reason) → IfOk one P → IfOk other P → IfOk (if test then one else other) P
+either P true one other p q = p
+either P false one other p q = q
+
+-- ---- what is kept
+
+-- of a circuit that has begun
+record IsBegun (numbers : Numbers) (begun : OpenCircuit) : Type 0 where
+  name : is_name begun.name ≡ true
+  count : length begun.values ≡ length (owners begun.nodes)
+  values : All (IsPoly numbers.t numbers.n) begun.values
+
+-- of a script behind its head
+record IsDrafted (draft : Draft) : Type 0 where
+  modulus : 0 < draft.frame.t
+  circuits : All (IsNamed draft.frame) draft.circuits
+
+-- of a place
+unfoldable Sound : Place → Type 0
+Sound place.Start = ⊤
+Sound place.Versioned = ⊤
+Sound (place.Measured numbers) = 0 < numbers.t
+Sound (place.Seeded numbers master) = 0 < numbers.t
+Sound (place.Circuits draft) = IsDrafted draft
+Sound (place.InCircuit draft begun) = IsDrafted draft × IsBegun draft.frame begun
+Sound (place.Lanes draft) = IsDrafted draft
+Sound (place.InLane draft lane) = IsDrafted draft
+Sound (place.Closing draft) = IsDrafted draft
+Sound (place.Finished draft) = IsDrafted draft
+
+-- ---- the head
+
+-- where a rule isn't the first that is broken, it is kept
+kept : (b : Bool) (bad : Field) (rest : Option Field) → cond (not b) (Some bad) rest ≡ None → (b ≡ true) × (rest ≡ None)
+kept true bad rest e = (refl, e)
+kept false bad rest e = (cc, cc)
+
+-- the modulus of plaintexts is not 0
+modulus-some : (raw : RawParams) → first_bad raw ≡ None → 0 < raw.t
+unfolding first_bad
+modulus-some raw e =
+    let degree = kept (is_degree raw.n) _ _ e in
+    let modulus = kept (is_modulus raw.n raw.q) _ _ degree.1 in
+    let small = kept (within 2 65537 raw.t) _ _ modulus.1 in
+    grind (arith, small.0)
+
+judged-sound : (raw : RawParams) (bad : Option Field) → first_bad raw ≡ bad → IfOk (judged raw bad) (λ numbers. 0 < numbers.t)
+unfolding judged
+judged-sound raw (Some bad) e = tt
+judged-sound raw None e = either (λ numbers. 0 < numbers.t) (root_power raw == raw.q - 1) _ _ (modulus-some raw e) tt
+
+version-sound : (words : List (List ℕ)) → IfOk (version_statement words) Sound
+unfolding version_statement Sound
+version-sound words =
+    past_test Sound (is_statement (codes "helium") 2 words) reason.Word _ (λ named.
+    past Sound (number_at words 1) _ (λ version read.
+    past_test Sound (version == 1) reason.Version _ (λ first. tt)))
+
+params-sound : (words : List (List ℕ)) → IfOk (params_statement words) Sound
+unfolding params_statement Sound
+params-sound words =
+    past_test Sound (is_statement (codes "params") 10 words) reason.Word _ (λ named.
+    past Sound (given_params words) _ (λ raw given.
+    past_known (λ numbers. 0 < numbers.t) Sound (judged raw (first_bad raw)) _ (judged-sound raw (first_bad raw) refl) (λ numbers some. some)))
+
+seed-sound : (numbers : Numbers) (words : List (List ℕ)) → 0 < numbers.t → IfOk (seed_statement numbers words) Sound
+unfolding seed_statement Sound
+seed-sound numbers words some =
+    past_test Sound (is_statement (codes "seed") 2 words) reason.Word _ (λ named.
+    past Sound (master_seed (word_at words 1)) _ (λ master spelled. some))
+
+present-sound : (numbers : Numbers) (master : List ℕ) (words : List (List ℕ)) → 0 < numbers.t → IfOk (present_statement numbers master words) Sound
+unfolding present_statement Sound
+present-sound numbers master words some =
+    past_test Sound (leads (codes "present") words) reason.Word _ (λ named.
+    past Sound (numbers_behind [] (drop 1 words)) _ (λ given read.
+    past Sound (rising numbers.parties [] 0 given) _ (λ present rise.
+    record { modulus = some; circuits = All-nil (IsNamed numbers) })))
+
+-- ---- circuits
+
+circuit-sound : (draft : Draft) (words : List (List ℕ)) → IsDrafted draft → IfOk (circuit_statement draft words) Sound
+unfolding circuit_statement Sound owners
+circuit-sound draft words drafted =
+    past_test Sound (length words == 2) reason.Word _ (λ count.
+    past_test Sound (nat_lt (length draft.circuits) 64) reason.Limit _ (λ room.
+    past_test Sound (is_name (word_at words 1)) reason.Name _ (λ name.
+    past_test Sound (not (list_any (has_name (word_at words 1)) draft.circuits)) reason.Name _ (λ new.
+    (drafted, record { name = name; count = refl; values = All-nil (IsPoly draft.frame.t draft.frame.n) })))))
+
+-- each coefficient that passes a test keeps it
+all-below : (t : ℕ) (xs : List ℕ) → list_all (λ x. nat_lt x t) xs ≡ true → All (λ x. x < t) xs
+all-below t xs e = λ k d inside. ltb-true _ t (AllPass-from_list_all (λ x. nat_lt x t) xs e k d inside)
+
+-- both of two tests hold
+both : (a b : Bool) → (a && b) ≡ true → (a ≡ true) × (b ≡ true)
+both true b e = (refl, e)
+both false b e = (cc, cc)
+
+-- a choice between a value and a refusal
+chosen : {A : Type 0} (P : A → Type 0) (test : Bool) (v : A) (r : Reason) → (test ≡ true → P v) → IfOk {T = A} {E = Reason} (if test then Ok v else Err r) P
+chosen P true v r k = k refl
+chosen P false v r k = tt
+
+-- filled up, the coefficients are a polynomial
+IsPoly-filled : (n t : ℕ) (xs : List ℕ) → 0 < t → length xs ≤ n → All (λ x. x < t) xs → IsPoly t n (filled n xs)
+IsPoly-filled n t xs positive short below = record {
+  entries = omega (arith, length-append xs (replicate (n - length xs) 0), length-replicate {A = ℕ} (n - length xs) 0);
+  below = All-append (λ x. x < t) xs (replicate (n - length xs) 0) below (All-replicate (λ x. x < t) (n - length xs) 0 positive);
+}
+
+plain-fits : (numbers : Numbers) (coeffs : List ℕ) → 0 < numbers.t → IfOk (plain numbers coeffs) (IsPoly numbers.t numbers.n)
+unfolding plain
+plain-fits numbers coeffs some =
+    chosen (IsPoly numbers.t numbers.n) (nat_le (length coeffs) numbers.n && list_all (λ x. nat_lt x numbers.t) coeffs) (filled numbers.n coeffs) reason.Node (λ passed.
+    let tests = both (nat_le (length coeffs) numbers.n) (list_all (λ x. nat_lt x numbers.t) coeffs) passed in
+    IsPoly-filled numbers.n numbers.t coeffs some (leb-true (length coeffs) numbers.n tests.0) (all-below numbers.t coeffs tests.1))
+
+-- the owners of a node more
+owners-append : (nodes : List Node) (added : Node) → owners (nodes ++ added ∷ []) ≡ owners nodes ++ owners (added ∷ [])
+unfolding owners
+owners-append [] added = refl
+owners-append (node.Input owner ∷ rest) added = ap (λ os. owner ∷ os) (owners-append rest added)
+owners-append (node.Const value ∷ rest) added = owners-append rest added
+owners-append (node.Add left right ∷ rest) added = owners-append rest added
+owners-append (node.Sub left right ∷ rest) added = owners-append rest added
+owners-append (node.Neg of ∷ rest) added = owners-append rest added
+owners-append (node.Mul left right ∷ rest) added = owners-append rest added
+owners-append (node.Rot g of ∷ rest) added = owners-append rest added
+
+-- an input more, and its value
+input-begun : (numbers : Numbers) (begun : OpenCircuit) (owner : ℕ) (value : List ℕ) → IsBegun numbers begun → IsPoly numbers.t numbers.n value → IsBegun numbers (record (with_node begun (node.Input owner)) { values = begun.values ++ value ∷ [] })
+unfolding owners
+input-begun numbers begun owner value b fits = record {
+  name = b.name;
+  count = omega (arith, b.count, length-append begun.values (value ∷ []), ap length (owners-append begun.nodes (node.Input owner)), length-append (owners begun.nodes) (owner ∷ []));
+  values = All-append (IsPoly numbers.t numbers.n) begun.values (value ∷ []) b.values (All-cons (IsPoly numbers.t numbers.n) value [] fits (All-nil (IsPoly numbers.t numbers.n)));
+}
+
+-- a node that is no input
+abbrev HasNoOwner : Node → Type 0
+HasNoOwner added = owners (added ∷ []) ≡ []
+
+other-begun : (numbers : Numbers) (begun : OpenCircuit) (added : Node) → IsBegun numbers begun → HasNoOwner added → IsBegun numbers (with_node begun added)
+other-begun numbers begun added b none = record {
+  name = b.name;
+  count = omega (arith, b.count, ap length (owners-append begun.nodes added), length-append (owners begun.nodes) (owners (added ∷ [])), ap length none);
+  values = b.values;
+}
+
+input-sound : (draft : Draft) (begun : OpenCircuit) (words : List (List ℕ)) → IsDrafted draft → IsBegun draft.frame begun → IfOk (input_statement draft begun words) Sound
+unfolding input_statement Sound
+input-sound draft begun words d b =
+    past_test Sound (nat_le 3 (length words)) reason.Word _ (λ enough.
+    past Sound (number_at words 1) _ (λ p read.
+    past Sound (numbers_behind [] (drop 2 words)) _ (λ coeffs spelled.
+    past_test Sound (has_room begun && nat_lt draft.inputs 1024) reason.Limit _ (λ room.
+    past Sound (party draft.frame p) _ (λ owner is.
+    past_known (IsPoly draft.frame.t draft.frame.n) Sound (plain draft.frame coeffs) _ (plain-fits draft.frame coeffs d.modulus) (λ value fits.
+    (record { modulus = d.modulus; circuits = d.circuits }, input-begun draft.frame begun owner value b fits)))))))
+
+rot-sound : (draft : Draft) (begun : OpenCircuit) (words : List (List ℕ)) → IsDrafted draft → IsBegun draft.frame begun → IfOk (rot_statement draft begun words) Sound
+unfolding rot_statement Sound owners
+rot-sound draft begun words d b =
+    past_test Sound (length words == 3) reason.Word _ (λ count.
+    past Sound (number_at words 1) _ (λ g read.
+    past Sound (number_at words 2) _ (λ of read_too.
+    past_test Sound (has_room begun && may_turn draft g) reason.Limit _ (λ room.
+    past_test Sound (is_turn draft.frame g && is_earlier begun of) reason.Node _ (λ turn.
+    (record { modulus = d.modulus; circuits = d.circuits }, other-begun draft.frame begun (node.Rot g of) b refl))))))
+
+operands-known : (begun : OpenCircuit) (words : List (List ℕ)) (made : ℕ → ℕ → Node) → ((x y : ℕ) → HasNoOwner (made x y)) → IfOk (operands begun words >>= (λ ab. Ok (made ab.0 ab.1))) HasNoOwner
+operands-known begun words made none = past HasNoOwner (operands begun words) _ (λ ab read. none ab.0 ab.1)
+
+const-known : (draft : Draft) (begun : OpenCircuit) (words : List (List ℕ)) → IfOk (const_node draft begun words) HasNoOwner
+unfolding const_node owners
+const-known draft begun words =
+    past_test HasNoOwner (nat_le 2 (length words)) reason.Word _ (λ enough.
+    past HasNoOwner (numbers_behind [] (drop 1 words)) _ (λ coeffs spelled.
+    past_test HasNoOwner (has_room begun) reason.Limit _ (λ room.
+    past HasNoOwner (plain draft.frame coeffs) _ (λ value fits. refl))))
+
+neg-known : (begun : OpenCircuit) (words : List (List ℕ)) → IfOk (neg_node begun words) HasNoOwner
+unfolding neg_node owners
+neg-known begun words =
+    past_test HasNoOwner (length words == 2) reason.Word _ (λ count.
+    past HasNoOwner (number_at words 1) _ (λ of read.
+    past_test HasNoOwner (has_room begun) reason.Limit _ (λ room.
+    past_test HasNoOwner (is_earlier begun of) reason.Node _ (λ earlier. refl))))
+
+other-known : (draft : Draft) (begun : OpenCircuit) (words : List (List ℕ)) → IfOk (other_node draft begun words) HasNoOwner
+unfolding other_node owners
+other-known draft begun words =
+    either HasNoOwner (leads (codes "const") words) _ _ (const-known draft begun words)
+    (either HasNoOwner (leads (codes "neg") words) _ _ (neg-known begun words)
+    (either HasNoOwner (leads (codes "add") words) _ _ (operands-known begun words (λ x y. node.Add x y) (λ x y. refl))
+    (either HasNoOwner (leads (codes "sub") words) _ _ (operands-known begun words (λ x y. node.Sub x y) (λ x y. refl))
+    (either HasNoOwner (leads (codes "mul") words) _ _ (operands-known begun words (λ x y. node.Mul x y) (λ x y. refl)) tt))))
+
+-- what is none, is none
+is-none : (o : Option ℕ) → is_none o ≡ true → o ≡ None
+is-none None e = refl
+is-none (Some x) e = cc
+
+end-sound : (draft : Draft) (begun : OpenCircuit) (words : List (List ℕ)) → IsDrafted draft → IsBegun draft.frame begun → IfOk (circuit_end draft begun words) Sound
+unfolding circuit_end Sound
+end-sound draft begun words d b =
+    past_test Sound (length words == 1) reason.Word _ (λ count.
+    past_test Sound (is_circuit draft.frame begun.nodes) reason.Node _ (λ rules.
+    let last : Named = record { name = begun.name; nodes = begun.nodes; values = begun.values } in
+    let named : IsNamed draft.frame last = record { name = b.name; rules = is-none _ rules; count = b.count; values = b.values } in
+    record {
+      modulus = d.modulus;
+      circuits = All-append (IsNamed draft.frame) draft.circuits (last ∷ []) d.circuits (All-cons (IsNamed draft.frame) last [] named (All-nil (IsNamed draft.frame)));
+    }))
+
+in-circuit-sound : (draft : Draft) (begun : OpenCircuit) (words : List (List ℕ)) → IsDrafted draft → IsBegun draft.frame begun → IfOk (in_circuit draft begun words) Sound
+unfolding in_circuit Sound
+in-circuit-sound draft begun words d b =
+    either Sound (leads (codes "input") words) _ _ (input-sound draft begun words d b)
+    (either Sound (leads (codes "rot") words) _ _ (rot-sound draft begun words d b)
+    (either Sound (leads (codes "end") words) _ _ (end-sound draft begun words d b)
+    (past_known HasNoOwner Sound (other_node draft begun words) _ (other-known draft begun words) (λ added none.
+    (d, other-begun draft.frame begun added b none)))))
+
+-- ---- lanes, and the end
+
+lane-sound : (draft : Draft) (words : List (List ℕ)) → IsDrafted draft → IfOk (lane_statement draft words) Sound
+unfolding lane_statement Sound
+lane-sound draft words d = past_test Sound (length words == 1) reason.Word _ (λ count. past_test Sound (nat_lt (length draft.lanes) 8) reason.Limit _ (λ room. d))
+
+in-lane-sound : (draft : Draft) (lane : List Line) (words : List (List ℕ)) → IsDrafted draft → IfOk (in_lane draft lane words) Sound
+unfolding in_lane lane_end Sound
+in-lane-sound draft lane words d =
+    either Sound (leads (codes "end") words) _ _ (past_test Sound (length words == 1) reason.Word _ (λ count. record { modulus = d.modulus; circuits = d.circuits }))
+    (past Sound (lane_line draft words) _ (λ said read. record { modulus = d.modulus; circuits = d.circuits }))
+
+workers-sound : (draft : Draft) (words : List (List ℕ)) → IsDrafted draft → IfOk (workers_statement draft words) Sound
+unfolding workers_statement Sound
+workers-sound draft words d =
+    past_test Sound (length words == 3) reason.Word _ (λ count.
+    past Sound (number_at words 1) _ (λ workers read.
+    past Sound (number_at words 2) _ (λ jobs read_too.
+    past_test Sound (nat_le workers 8 && nat_le jobs 256) reason.Limit _ (λ few. record { modulus = d.modulus; circuits = d.circuits }))))
+
+done-sound : (draft : Draft) (words : List (List ℕ)) → IsDrafted draft → IfOk (done_statement draft words) Sound
+unfolding done_statement Sound
+done-sound draft words d = past_test Sound (is_statement (codes "done") 1 words) reason.Word _ (λ named. d)
+
+between-lanes-sound : (draft : Draft) (words : List (List ℕ)) → IsDrafted draft → IfOk (between_lanes draft words) Sound
+unfolding between_lanes
+between-lanes-sound draft words d =
+    either Sound (leads (codes "lane") words) _ _ (lane-sound draft words d)
+    (either Sound (leads (codes "workers") words) _ _ (workers-sound draft words d) (done-sound draft words d))
+
+between-circuits-sound : (draft : Draft) (words : List (List ℕ)) → IsDrafted draft → IfOk (between_circuits draft words) Sound
+unfolding between_circuits
+between-circuits-sound draft words d = either Sound (leads (codes "circuit") words) _ _ (circuit-sound draft words d) (between-lanes-sound draft words d)
+
+-- ---- all places
+
+statement-sound : (at : Place) (words : List (List ℕ)) → Sound at → IfOk (statement at words) Sound
+unfolding statement Sound
+statement-sound place.Start words s = version-sound words
+statement-sound place.Versioned words s = params-sound words
+statement-sound (place.Measured numbers) words s = seed-sound numbers words s
+statement-sound (place.Seeded numbers master) words s = present-sound numbers master words s
+statement-sound (place.Circuits draft) words s = between-circuits-sound draft words s
+statement-sound (place.InCircuit draft begun) words s = in-circuit-sound draft begun words s.0 s.1
+statement-sound (place.Lanes draft) words s = between-lanes-sound draft words s
+statement-sound (place.InLane draft lane) words s = in-lane-sound draft lane words s
+statement-sound (place.Closing draft) words s = done-sound draft words s
+statement-sound (place.Finished draft) words s = tt
+
+line-sound : (at : Place) (line : List ℕ) → Sound at → IfOk (after_line at line) Sound
+unfolding after_line spoken
+line-sound at line s = either Sound (all_plain line) _ _ (either Sound (is_skipped (words line)) _ _ s (statement-sound at (words line) s)) tt
+
+ended-named : (at : Place) (n : ℕ) → Sound at → IfOk (ended at n) AreNamed
+unfolding ended Sound
+ended-named place.Start n s = tt
+ended-named place.Versioned n s = tt
+ended-named (place.Measured numbers) n s = tt
+ended-named (place.Seeded numbers master) n s = tt
+ended-named (place.Circuits draft) n s = tt
+ended-named (place.InCircuit draft begun) n s = tt
+ended-named (place.Lanes draft) n s = tt
+ended-named (place.InLane draft lane) n s = tt
+ended-named (place.Closing draft) n s = tt
+ended-named (place.Finished draft) n s = s.circuits
+
+line-past : (n : ℕ) (step : Result Place Reason) (rest : Place → Result Asked Refusal) → IfOk step Sound → ((next : Place) → Sound next → IfOk (rest next) AreNamed) → IfOk (past_line n step rest) AreNamed
+line-past n (Ok next) rest sound k = k next sound
+line-past n (Err r) rest sound k = tt
+
+read-named : (at : Place) (n : ℕ) (ls : List (List ℕ)) → Sound at → IfOk (read_from at n ls) AreNamed
+unfolding read_from
+read-named at n [] s = ended-named at n s
+read-named at n (line ∷ rest) s = line-past n (after_line at line) (λ next. read_from next (n + 1) rest) (line-sound at line s) (λ next sound. read-named next (n + 1) rest sound)
+
+at-start : Sound place.Start
+unfolding Sound
+at-start = tt
+
+-- the circuits of a script that these lines spell
+pub named : (ls : List (List ℕ)) (asked : Asked) → read_from place.Start 1 ls ≡ Ok asked → AreNamed asked
+named ls asked e = IfOk-at_ok AreNamed e (read-named place.Start 1 ls at-start)
