@@ -3,9 +3,10 @@ ghost use Rattle.ring_spec.specs.Ring.{IsPoly};
 
 use super::*;
 use mod_ring::{Poly, Ring};
-use param_set::Params;
+use param_set::{ParamFault, Params, RawParams};
 use proto_names::PartySet;
 use std::alloc::{AllocError, Global};
+use std::test::Fail;
 
 /// The sum of three polynomials.
 fn sum_of(
@@ -39,10 +40,27 @@ fn together(
     reconstruct(alloc, ring, &[one, other])
 }
 
+/// Parameters for any two of three parties, modulo 85142929 * 115569217.
+fn composite() -> Result<Params, ParamFault>
+    ensures { IfOk result (λ params. params.parties ≡ 3) }
+{
+    Params::check(&RawParams {
+        n: 8,
+        q: 9_839_901_637_616_593,
+        t: 16,
+        root: 3_862_945_158_657_909,
+        digit_bits: 8,
+        err: 1,
+        flood: 1,
+        parties: 3,
+        threshold: 2,
+    })
+}
+
 #[test]
-fn any_two_of_three_have_the_secret(rt: HostRuntime) -> Result<(), AllocError> {
+fn any_two_of_three_have_the_secret_modulo_a_product(rt: HostRuntime) -> Result<(), Fail> {
     let alloc = rt.alloc();
-    let ring = Ring::new(alloc, &Params::frame(3, 2))?;
+    let ring = Ring::new(alloc, &composite()?)?;
     let a = Dealing::new(alloc, &ring, [1; 32])?;
     let b = Dealing::new(alloc, &ring, [2; 32])?;
     let c = Dealing::new(alloc, &ring, [3; 32])?;
