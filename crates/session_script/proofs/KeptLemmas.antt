@@ -1,10 +1,10 @@
 -- The circuits of each accepted script are circuits with fitting values: an invariant of the places.
-use Rattle.std.proofs.Common.{◌≡◌, ℕ, ◌+◌, ◌-◌, ◌<◌, ◌≤◌, Bool, true, false, cond, not, ◌&&◌, List, [], ◌∷◌, ◌++◌, length, replicate, All, Option, Some, None, Result, Ok, Err, IfOk, refl, ap, arith, nat_le, nat_lt, leb-true, ltb-true, drop, is_none, if◌then◌else◌, codes, ◌==◌}
+use Rattle.std.proofs.Common.{◌≡◌, ℕ, suc, ◌+◌, ◌-◌, ◌*◌, ◌%◌, ◌<◌, ◌≤◌, Bool, true, false, cond, not, ◌&&◌, List, [], ◌∷◌, ◌++◌, length, replicate, All, Option, Some, None, Result, Ok, Err, IfOk, refl, ap, subst, arith, lt-ltb, nat_eq, nat_le, nat_lt, leb-true, ltb-true, drop, is_none, if◌then◌else◌, codes, ◌==◌}
 use Rattle.std.specs.Prelude.{⊤}
 use Rattle.std.specs.List.{list_all, list_any}
 use Rattle.std.proofs.lemmas.List.{length-append, length-replicate}
 use Rattle.std.proofs.lemmas.List.Elements.{All-append, All-replicate, All-cons, All-nil}
-use Rattle.std.proofs.lemmas.List.Sums.{AllPass-from_list_all}
+use Rattle.std.proofs.lemmas.List.Sums.{AllPass-from_list_all, list_all-from_AllPass}
 use Rattle.std.proofs.lemmas.Result.{IfOk-at_ok}
 use Rattle.ring_spec.specs.Ring.{IsPoly}
 use Rattle.param_set.specs.declared.raw.RawParams.{RawParams}
@@ -12,7 +12,7 @@ use Rattle.param_set.specs.declared.raw.Field.{Field}
 use Rattle.param_set.specs.Rules.{first_bad, root_power, is_degree, is_modulus, within}
 use Rattle.circuit_form.specs.declared.node.Node.{Node}
 use Rattle.circuit_form.specs.declared.node.Node.TheVariants as node
-use Rattle.circuit_form.specs.Circuits.{owners}
+use Rattle.circuit_form.specs.Circuits.{fits, may_stand, first_wrong, first_fault, owners}
 use Rattle.session_rules.specs.declared.line.Line.{Line}
 use Rattle.session_script.specs.declared.reason.Reason.{Reason}
 use Rattle.session_script.specs.declared.reason.Reason.TheVariants as reason
@@ -55,10 +55,12 @@ either P false one other p q = q
 -- ---- what is kept
 
 -- of a circuit that has begun
-record IsBegun (numbers : Numbers) (begun : OpenCircuit) : Type 0 where
-  name : is_name begun.name ≡ true
-  count : length begun.values ≡ length (owners begun.nodes)
-  values : All (IsPoly numbers.t numbers.n) begun.values
+pub record IsBegun (numbers : Numbers) (begun : OpenCircuit) : Type 0 where
+  pub name : is_name begun.name ≡ true
+  pub count : length begun.values ≡ length (owners begun.nodes)
+  pub values : All (IsPoly numbers.t numbers.n) begun.values
+  pub few : length begun.nodes ≤ 256
+  pub stand : first_wrong numbers.n numbers.t numbers.parties 0 begun.nodes ≡ None
 
 -- of a script behind its head
 record IsDrafted (draft : Draft) : Type 0 where
@@ -130,13 +132,13 @@ present-sound numbers master words some =
 -- ---- circuits
 
 circuit-sound : (draft : Draft) (words : List (List ℕ)) → IsDrafted draft → IfOk (circuit_statement draft words) Sound
-unfolding circuit_statement Sound owners
+unfolding circuit_statement Sound owners first_wrong
 circuit-sound draft words drafted =
     past_test Sound (length words == 2) reason.Word _ (λ count.
     past_test Sound (nat_lt (length draft.circuits) 64) reason.Limit _ (λ room.
     past_test Sound (is_name (word_at words 1)) reason.Name _ (λ name.
     past_test Sound (not (list_any (has_name (word_at words 1)) draft.circuits)) reason.Name _ (λ new.
-    (drafted, record { name = name; count = refl; values = All-nil (IsPoly draft.frame.t draft.frame.n) })))))
+    (drafted, record { name = name; count = refl; values = All-nil (IsPoly draft.frame.t draft.frame.n); few = omega arith; stand = refl })))))
 
 -- each coefficient that passes a test keeps it
 all-below : (t : ℕ) (xs : List ℕ) → list_all (λ x. nat_lt x t) xs ≡ true → All (λ x. x < t) xs
@@ -178,74 +180,155 @@ owners-append (node.Neg of ∷ rest) added = owners-append rest added
 owners-append (node.Mul left right ∷ rest) added = owners-append rest added
 owners-append (node.Rot g of ∷ rest) added = owners-append rest added
 
+-- where a list of nodes stands, so does its first, and the rest
+first_stands : (b : Bool) (rest : Option ℕ) (k : ℕ) → cond b rest (Some k) ≡ None → (b ≡ true) × (rest ≡ None)
+first_stands true rest k e = (refl, e)
+first_stands false rest k e = (cc, cc)
+
+-- a node that may stand behind nodes that do
+first_wrong-append : (n t parties k : ℕ) (nodes : List Node) (added : Node) → first_wrong n t parties k nodes ≡ None → may_stand n t parties (k + length nodes) added ≡ true → first_wrong n t parties k (nodes ++ added ∷ []) ≡ None
+unfolding first_wrong
+first_wrong-append n t parties k [] added e stands =
+    let place : ◌≡◌ {A = ℕ} (k + 0) k = omega arith in
+    let here = subst (λ (m : ℕ). may_stand n t parties m added ≡ true) place stands in
+    rw here refl
+first_wrong-append n t parties k (node ∷ rest) added e stands =
+    let parts = first_stands (may_stand n t parties k node) (first_wrong n t parties (k + 1) rest) k e in
+    let place : ◌≡◌ {A = ℕ} (k + suc (length rest)) (k + 1 + length rest) = omega arith in
+    let behind = first_wrong-append n t parties (k + 1) rest added parts.1 (subst (λ (m : ℕ). may_stand n t parties m added ≡ true) place stands) in
+    rw parts.0 behind
+
+-- whether a node may stand behind those of a circuit
+abbrev stands_behind : Numbers → OpenCircuit → Node → Bool
+stands_behind numbers begun added = may_stand numbers.n numbers.t numbers.parties (length begun.nodes) added
+
+-- one node more stands
+all-stand : (numbers : Numbers) (begun : OpenCircuit) (added : Node) → IsBegun numbers begun → stands_behind numbers begun added ≡ true → first_wrong numbers.n numbers.t numbers.parties 0 (begun.nodes ++ added ∷ []) ≡ None
+all-stand numbers begun added b stands =
+    let place : ◌≡◌ {A = ℕ} (length begun.nodes) (0 + length begun.nodes) = omega arith in
+    first_wrong-append numbers.n numbers.t numbers.parties 0 begun.nodes added b.stand (subst (λ (m : ℕ). may_stand numbers.n numbers.t numbers.parties m added ≡ true) place stands)
+
 -- an input more, and its value
-input-begun : (numbers : Numbers) (begun : OpenCircuit) (owner : ℕ) (value : List ℕ) → IsBegun numbers begun → IsPoly numbers.t numbers.n value → IsBegun numbers (record (with_node begun (node.Input owner)) { values = begun.values ++ value ∷ [] })
+input-begun : (numbers : Numbers) (begun : OpenCircuit) (owner : ℕ) (value : List ℕ) → IsBegun numbers begun → length begun.nodes < 256 → stands_behind numbers begun (node.Input owner) ≡ true → IsPoly numbers.t numbers.n value → IsBegun numbers (record (with_node begun (node.Input owner)) { values = begun.values ++ value ∷ [] })
 unfolding owners
-input-begun numbers begun owner value b fits = record {
+input-begun numbers begun owner value b room stands fits = record {
   name = b.name;
   count = omega (arith, b.count, length-append begun.values (value ∷ []), ap length (owners-append begun.nodes (node.Input owner)), length-append (owners begun.nodes) (owner ∷ []));
   values = All-append (IsPoly numbers.t numbers.n) begun.values (value ∷ []) b.values (All-cons (IsPoly numbers.t numbers.n) value [] fits (All-nil (IsPoly numbers.t numbers.n)));
+  few = omega (arith, room, length-append begun.nodes (node.Input owner ∷ []));
+  stand = all-stand numbers begun (node.Input owner) b stands;
 }
 
--- a node that is no input
-abbrev HasNoOwner : Node → Type 0
-HasNoOwner added = owners (added ∷ []) ≡ []
+-- a node that is no input, and may stand
+record IsOther (numbers : Numbers) (begun : OpenCircuit) (added : Node) : Type 0 where
+  no_owner : owners (added ∷ []) ≡ []
+  room : length begun.nodes < 256
+  stands : stands_behind numbers begun added ≡ true
 
-other-begun : (numbers : Numbers) (begun : OpenCircuit) (added : Node) → IsBegun numbers begun → HasNoOwner added → IsBegun numbers (with_node begun added)
-other-begun numbers begun added b none = record {
+other-begun : (numbers : Numbers) (begun : OpenCircuit) (added : Node) → IsBegun numbers begun → IsOther numbers begun added → IsBegun numbers (with_node begun added)
+other-begun numbers begun added b other = record {
   name = b.name;
-  count = omega (arith, b.count, ap length (owners-append begun.nodes added), length-append (owners begun.nodes) (owners (added ∷ [])), ap length none);
+  count = omega (arith, b.count, ap length (owners-append begun.nodes added), length-append (owners begun.nodes) (owners (added ∷ [])), ap length other.no_owner);
   values = b.values;
+  few = omega (arith, other.room, length-append begun.nodes (added ∷ []));
+  stand = all-stand numbers begun added b other.stands;
 }
+
+-- a party's number is one that may own an input
+party-known : (numbers : Numbers) (p : ℕ) → IfOk (party numbers p) (λ owner. (nat_le 1 owner && nat_le owner numbers.parties) ≡ true)
+party-known numbers p = chosen (λ owner. (nat_le 1 owner && nat_le owner numbers.parties) ≡ true) (nat_le 1 p && nat_le p numbers.parties) p reason.Party (λ is. is)
 
 input-sound : (draft : Draft) (begun : OpenCircuit) (words : List (List ℕ)) → IsDrafted draft → IsBegun draft.frame begun → IfOk (input_statement draft begun words) Sound
-unfolding input_statement Sound
+unfolding input_statement Sound may_stand
 input-sound draft begun words d b =
     past_test Sound (nat_le 3 (length words)) reason.Word _ (λ enough.
     past Sound (number_at words 1) _ (λ p read.
     past Sound (numbers_behind [] (drop 2 words)) _ (λ coeffs spelled.
     past_test Sound (has_room begun && nat_lt draft.inputs 1024) reason.Limit _ (λ room.
-    past Sound (party draft.frame p) _ (λ owner is.
+    past_known (λ owner. (nat_le 1 owner && nat_le owner draft.frame.parties) ≡ true) Sound (party draft.frame p) _ (party-known draft.frame p) (λ owner is.
     past_known (IsPoly draft.frame.t draft.frame.n) Sound (plain draft.frame coeffs) _ (plain-fits draft.frame coeffs d.modulus) (λ value fits.
-    (record { modulus = d.modulus; circuits = d.circuits }, input-begun draft.frame begun owner value b fits)))))))
+    let space = ltb-true (length begun.nodes) 256 (both (has_room begun) (nat_lt draft.inputs 1024) room).0 in
+    (record { modulus = d.modulus; circuits = d.circuits }, input-begun draft.frame begun owner value b space is fits)))))))
+
+-- the same tests, bracketed the other way
+turn_stands : (odd least most earlier : Bool) → ((odd && least && most) && earlier) ≡ true → (odd && least && most && earlier) ≡ true
+turn_stands true true true earlier e = e
+turn_stands true true false earlier e = e
+turn_stands true false most earlier e = e
+turn_stands false least most earlier e = e
 
 rot-sound : (draft : Draft) (begun : OpenCircuit) (words : List (List ℕ)) → IsDrafted draft → IsBegun draft.frame begun → IfOk (rot_statement draft begun words) Sound
-unfolding rot_statement Sound owners
+unfolding rot_statement Sound owners may_stand
 rot-sound draft begun words d b =
     past_test Sound (length words == 3) reason.Word _ (λ count.
     past Sound (number_at words 1) _ (λ g read.
     past Sound (number_at words 2) _ (λ of read_too.
     past_test Sound (has_room begun && may_turn draft g) reason.Limit _ (λ room.
     past_test Sound (is_turn draft.frame g && is_earlier begun of) reason.Node _ (λ turn.
-    (record { modulus = d.modulus; circuits = d.circuits }, other-begun draft.frame begun (node.Rot g of) b refl))))))
+    let space = ltb-true (length begun.nodes) 256 (both (has_room begun) (may_turn draft g) room).0 in
+    let turns : stands_behind draft.frame begun (node.Rot g of) ≡ true = turn_stands (g % 2 == 1) (nat_le 3 g) (nat_lt g (2 * draft.frame.n)) (is_earlier begun of) turn in
+    (record { modulus = d.modulus; circuits = d.circuits }, other-begun draft.frame begun (node.Rot g of) b (record { no_owner = refl; room = space; stands = turns })))))))
 
-operands-known : (begun : OpenCircuit) (words : List (List ℕ)) (made : ℕ → ℕ → Node) → ((x y : ℕ) → HasNoOwner (made x y)) → IfOk (operands begun words >>= (λ ab. Ok (made ab.0 ab.1))) HasNoOwner
-operands-known begun words made none = past HasNoOwner (operands begun words) _ (λ ab read. none ab.0 ab.1)
+-- the operands of a node, which are earlier ones
+abbrev Known : OpenCircuit → ℕ × ℕ → Type 0
+Known begun ab = (length begun.nodes < 256) × ((is_earlier begun ab.0 && is_earlier begun ab.1) ≡ true)
 
-const-known : (draft : Draft) (begun : OpenCircuit) (words : List (List ℕ)) → IfOk (const_node draft begun words) HasNoOwner
-unfolding const_node owners
-const-known draft begun words =
-    past_test HasNoOwner (nat_le 2 (length words)) reason.Word _ (λ enough.
-    past HasNoOwner (numbers_behind [] (drop 1 words)) _ (λ coeffs spelled.
-    past_test HasNoOwner (has_room begun) reason.Limit _ (λ room.
-    past HasNoOwner (plain draft.frame coeffs) _ (λ value fits. refl))))
+operands-known : (begun : OpenCircuit) (words : List (List ℕ)) → IfOk (operands begun words) (Known begun)
+unfolding operands
+operands-known begun words =
+    past_test (Known begun) (length words == 3) reason.Word _ (λ count.
+    past (Known begun) (number_at words 1) _ (λ left read.
+    past (Known begun) (number_at words 2) _ (λ right read_too.
+    past_test (Known begun) (has_room begun) reason.Limit _ (λ room.
+    past_test (Known begun) (is_earlier begun left && is_earlier begun right) reason.Node _ (λ earlier.
+    (ltb-true (length begun.nodes) 256 room, earlier))))))
 
-neg-known : (begun : OpenCircuit) (words : List (List ℕ)) → IfOk (neg_node begun words) HasNoOwner
-unfolding neg_node owners
-neg-known begun words =
-    past_test HasNoOwner (length words == 2) reason.Word _ (λ count.
-    past HasNoOwner (number_at words 1) _ (λ of read.
-    past_test HasNoOwner (has_room begun) reason.Limit _ (λ room.
-    past_test HasNoOwner (is_earlier begun of) reason.Node _ (λ earlier. refl))))
+made-known : (numbers : Numbers) (begun : OpenCircuit) (words : List (List ℕ)) (made : ℕ → ℕ → Node) → ((x y : ℕ) → owners (made x y ∷ []) ≡ []) → ((x y : ℕ) → (is_earlier begun x && is_earlier begun y) ≡ true → stands_behind numbers begun (made x y) ≡ true) → IfOk (operands begun words >>= (λ ab. Ok (made ab.0 ab.1))) (IsOther numbers begun)
+made-known numbers begun words made none stands =
+    past_known (Known begun) (IsOther numbers begun) (operands begun words) _ (operands-known begun words) (λ ab known.
+    record { no_owner = none ab.0 ab.1; room = known.0; stands = stands ab.0 ab.1 known.1 })
 
-other-known : (draft : Draft) (begun : OpenCircuit) (words : List (List ℕ)) → IfOk (other_node draft begun words) HasNoOwner
-unfolding other_node owners
-other-known draft begun words =
-    either HasNoOwner (leads (codes "const") words) _ _ (const-known draft begun words)
-    (either HasNoOwner (leads (codes "neg") words) _ _ (neg-known begun words)
-    (either HasNoOwner (leads (codes "add") words) _ _ (operands-known begun words (λ x y. node.Add x y) (λ x y. refl))
-    (either HasNoOwner (leads (codes "sub") words) _ _ (operands-known begun words (λ x y. node.Sub x y) (λ x y. refl))
-    (either HasNoOwner (leads (codes "mul") words) _ _ (operands-known begun words (λ x y. node.Mul x y) (λ x y. refl)) tt))))
+-- a polynomial is a constant that may stand
+poly-fits : (n t : ℕ) (value : List ℕ) → IsPoly t n value → fits n t value ≡ true
+poly-fits n t value poly =
+    let long : nat_eq (length value) n ≡ true = grind (arith, poly.entries) in
+    let below : list_all (λ x. nat_lt x t) value ≡ true = list_all-from_AllPass (λ x. nat_lt x t) value (λ k d inside. lt-ltb _ t (poly.below k d inside)) in
+    rw (long, below) refl
+
+const-known : (draft : Draft) (begun : OpenCircuit) (words : List (List ℕ)) → IsDrafted draft → IfOk (const_node draft begun words) (IsOther draft.frame begun)
+unfolding const_node owners may_stand
+const-known draft begun words d =
+    past_test (IsOther draft.frame begun) (nat_le 2 (length words)) reason.Word _ (λ enough.
+    past (IsOther draft.frame begun) (numbers_behind [] (drop 1 words)) _ (λ coeffs spelled.
+    past_test (IsOther draft.frame begun) (has_room begun) reason.Limit _ (λ room.
+    past_known (IsPoly draft.frame.t draft.frame.n) (IsOther draft.frame begun) (plain draft.frame coeffs) _ (plain-fits draft.frame coeffs d.modulus) (λ value poly.
+    record { no_owner = refl; room = ltb-true (length begun.nodes) 256 room; stands = poly-fits draft.frame.n draft.frame.t value poly }))))
+
+neg-known : (numbers : Numbers) (begun : OpenCircuit) (words : List (List ℕ)) → IfOk (neg_node begun words) (IsOther numbers begun)
+unfolding neg_node owners may_stand
+neg-known numbers begun words =
+    past_test (IsOther numbers begun) (length words == 2) reason.Word _ (λ count.
+    past (IsOther numbers begun) (number_at words 1) _ (λ of read.
+    past_test (IsOther numbers begun) (has_room begun) reason.Limit _ (λ room.
+    past_test (IsOther numbers begun) (is_earlier begun of) reason.Node _ (λ earlier.
+    record { no_owner = refl; room = ltb-true (length begun.nodes) 256 room; stands = earlier }))))
+
+other-known : (draft : Draft) (begun : OpenCircuit) (words : List (List ℕ)) → IsDrafted draft → IfOk (other_node draft begun words) (IsOther draft.frame begun)
+unfolding other_node owners may_stand
+other-known draft begun words d =
+    either (IsOther draft.frame begun) (leads (codes "const") words) _ _ (const-known draft begun words d)
+    (either (IsOther draft.frame begun) (leads (codes "neg") words) _ _ (neg-known draft.frame begun words)
+    (either (IsOther draft.frame begun) (leads (codes "add") words) _ _ (made-known draft.frame begun words (λ x y. node.Add x y) (λ x y. refl) (λ x y e. e))
+    (either (IsOther draft.frame begun) (leads (codes "sub") words) _ _ (made-known draft.frame begun words (λ x y. node.Sub x y) (λ x y. refl) (λ x y e. e))
+    (either (IsOther draft.frame begun) (leads (codes "mul") words) _ _ (made-known draft.frame begun words (λ x y. node.Mul x y) (λ x y. refl) (λ x y e. e)) tt))))
+
+-- nodes that stand are a circuit, if there is one: so only the lack of any makes `end` a wrong node
+pub only_empty : (numbers : Numbers) (begun : OpenCircuit) → IsBegun numbers begun → 0 < length begun.nodes → is_circuit numbers begun.nodes ≡ true
+unfolding first_fault
+only_empty numbers begun b some =
+    let none : nat_eq (length begun.nodes) 0 ≡ false = grind (arith, some) in
+    let short : nat_lt 256 (length begun.nodes) ≡ false = grind (arith, b.few) in
+    rw (none, short, b.stand) refl
 
 -- what is none, is none
 is-none : (o : Option ℕ) → is_none o ≡ true → o ≡ None
@@ -270,8 +353,8 @@ in-circuit-sound draft begun words d b =
     either Sound (leads (codes "input") words) _ _ (input-sound draft begun words d b)
     (either Sound (leads (codes "rot") words) _ _ (rot-sound draft begun words d b)
     (either Sound (leads (codes "end") words) _ _ (end-sound draft begun words d b)
-    (past_known HasNoOwner Sound (other_node draft begun words) _ (other-known draft begun words) (λ added none.
-    (d, other-begun draft.frame begun added b none)))))
+    (past_known (IsOther draft.frame begun) Sound (other_node draft begun words) _ (other-known draft begun words d) (λ added other.
+    (d, other-begun draft.frame begun added b other)))))
 
 -- ---- lanes, and the end
 
