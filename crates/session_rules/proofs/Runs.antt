@@ -169,7 +169,7 @@ unfolding after
 after_append f s [] more = refl
 after_append f s (e ∷ es) more = after_append f (step f s e.caller e.call).1 es more
 
-replayed_append : (f : Fixed) (s : State) (es more : List Entry) → replayed f s (es ++ more) ≡ replayed f s es ++ replayed f (after f s es) more
+pub replayed_append : (f : Fixed) (s : State) (es more : List Entry) → replayed f s (es ++ more) ≡ replayed f s es ++ replayed f (after f s es) more
 unfolding after replayed
 replayed_append f s [] more = refl
 replayed_append f s (e ∷ es) more = ap (λ (z : List Entry). record e { reply = (step f s e.caller e.call).0 } ∷ z) (replayed_append f (step f s e.caller e.call).1 es more)

@@ -88,5 +88,5 @@ FollowsFrom l who (x ∷ xs) before after es =
     × FollowsLine l who x before hand here × FollowsFrom l who xs hand after rest
 
 -- the entries are exactly the calls of the lane's lines, in order; it begins with nothing in hand
-pub Follows : ℕ → ℕ → List Line → List Entry → Type 0
+unfoldable pub Follows : ℕ → ℕ → List Line → List Entry → Type 0
 Follows l who lane es = (hand : Option Held) × FollowsFrom l who lane None hand es

@@ -6,3 +6,4 @@ pub mod Lanes
 pub mod Fixing
 pub mod Followed
 pub mod Facts
+pub mod Runs

@@ -1,5 +1,6 @@
 //! What follows from the rules, whatever is called: each function states a law, and does nothing.
 ghost use Rattle.session_rules.specs.Facts.{RefusalsChangeNothing, CallsKeep, HistoriesKeep, PartiesArePresent, CallsLeave, HistoriesLeave, KeysStay, FirstRoundsStay, TakenStays, IssueEnds, IssueIsItsMoves, MovesAreFew, CallsLeaveRest, HistoriesLeaveRest, SharesAreWanted, ShapesAreRefused, SharesAreCountedOnce, CompleteOnesLackNone, FewAreIssued, HistoriesIssueFew, LegalOnesGrow, NextState, BeginningsAreLegal, StatesLeadOn, LaterOnesFollow, TakenStaysOn};
+ghost use Rattle.session_rules.specs.Runs.{CallsGo, HonestOnesGoOn, LinesFollow, LanesFollow, AllLanesFollow, JoinsFollow, SettlingFollows, SerialIsHonest, SerialFollows};
 
 /// A reply that refuses goes with the state as it was.
 pub fn refusals()
@@ -54,4 +55,22 @@ pub fn histories()
     ensures taken { TakenStaysOn }
     ensures call_issues_few { FewAreIssued }
     ensures few { HistoriesIssueFew }
+{}
+
+/// What is done alone follows its lane: the log grows by exactly the calls of the lines, one after the
+/// other, and those of settling are rounds.
+pub fn following()
+    ensures calls { CallsGo }
+    ensures lines { LinesFollow }
+    ensures lane { LanesFollow }
+    ensures lanes { AllLanesFollow }
+    ensures joins { JoinsFollow }
+    ensures settling { SettlingFollows }
+    ensures serial { SerialFollows }
+{}
+
+/// Such calls keep a history legal, and the state is where it leads; so the serial history is legal.
+pub fn honesty()
+    ensures go_on { HonestOnesGoOn }
+    ensures serial { SerialIsHonest }
 {}

@@ -1,0 +1,99 @@
+-- What those that act in a session bring about.
+use Rattle.std.specs.Prelude.{◌≡◌, ℕ, zero, suc, true, false, List, [], ◌∷◌, ◌++◌, length, Some, None}
+use Rattle.share_spec.specs.Sets.{members}
+use Rattle.session_rules.specs.declared.call.Call.{Call}
+use Rattle.session_rules.specs.declared.call.Call.TheVariants as call
+use Rattle.session_rules.specs.declared.call.Entry.{Entry}
+use Rattle.session_rules.specs.declared.reply.Reply.{Reply}
+use Rattle.session_rules.specs.declared.line.Line.{Line}
+use Rattle.session_rules.specs.declared.fixed.Fixed.{Fixed}
+use Rattle.session_rules.specs.States.{State}
+use Rattle.session_rules.specs.Histories.{after, replayed, state_after, IsLegal}
+use Rattle.session_rules.specs.Lanes.{Run, job, called, did, served, served_all, joined_all, is_settled, settled, serial}
+use Rattle.session_rules.specs.Followed.{Calls, OneCall, Each, Sends, FollowsLine, Follows}
+use Rattle.session_rules.specs.Facts.{answered}
+
+-- ---- runs that go on
+
+-- from one run to another some calls are made: they stand behind the log, lead from the one state to the
+-- other, and have the replies that they have to have
+pub record Goes (f : Fixed) (from to : Run) (es : List Entry) : Type 0 where
+  pub log : to.log ≡ from.log ++ es
+  pub state : to.state ≡ after f from.state es
+  pub replies : replayed f from.state es ≡ es
+
+-- and they are such as is said
+abbrev pub Brings : Fixed → Run → Run → (List Entry → Type 0) → Type 0
+Brings f from to Are = (es : List Entry) × Goes f from to es × Are es
+
+-- a run whose calls are a legal history, and whose state is where that leads
+pub record IsHonest (f : Fixed) (r : Run) : Type 0 where
+  pub legal : IsLegal f r.log
+  pub state : r.state ≡ state_after f r.log
+
+-- ---- what settling calls
+
+abbrev pub Joins : ℕ → ℕ → List Entry → Type 0
+Joins who p es = OneCall who (call.Join p) es
+
+-- circuits are taken and finished as long as there is a job, at most n of them
+abbrev pub WorksOff : ℕ → ℕ → List Entry → Type 0
+WorksOff zero who es = OneCall who call.Take es
+WorksOff (suc n) who es = (r : Reply) × (rest : List Entry) × Calls who call.Take r rest es × elim (job r) [
+  | None ↦ rest ≡ []
+  | Some c ↦ (here : List Entry) × (later : List Entry) × (rest ≡ here ++ later) × OneCall who (call.Finish c) here × WorksOff n who later
+]
+
+-- a round: some parties send, and work is done
+abbrev pub IsRound : ℕ → ℕ → ℕ → List ℕ → List Entry → Type 0
+IsRound l who n parties es = (sends : List Entry) × (works : List Entry) × (es ≡ sends ++ works) × Each (Sends l who) parties sends × WorksOff n who works
+
+-- rounds, each by those that are present at its start, while an admitted circuit isn't answered, at most n
+abbrev pub AreRounds : ℕ → Fixed → ℕ → State → List Entry → Type 0
+AreRounds zero f who s es = es ≡ []
+AreRounds (suc n) f who s es = elim (is_settled s) [
+  | true ↦ es ≡ []
+  | false ↦ (here : List Entry) × (rest : List Entry) × (es ≡ here ++ rest)
+      × IsRound f.rows who (length f.plans) (members s.present) here × AreRounds n f who (after f s here) rest
+]
+
+-- some parties join, the lanes are followed one after the other, and the session is settled
+abbrev pub IsSerial : Fixed → ℕ → List ℕ → List (List Line) → List Entry → Type 0
+IsSerial f who parties lanes es =
+    (joins : List Entry) × (lines : List Entry) × (rounds : List Entry) × (es ≡ joins ++ lines ++ rounds)
+    × Each (Joins who) parties joins × Each (Follows f.rows who) lanes lines × AreRounds 6 f who (state_after f (joins ++ lines)) rounds
+
+-- ---- laws
+
+-- a call is made with its reply
+abbrev pub CallsGo : Type 0
+CallsGo = (f : Fixed) (who : ℕ) (r : Run) (c : Call) → Goes f r (called f who r c) (answered f r.state who c ∷ [])
+
+-- where calls go on from an honest run, the later one is honest
+abbrev pub HonestOnesGoOn : Type 0
+HonestOnesGoOn = (f : Fixed) (from to : Run) (es : List Entry) → Goes f from to es → IsHonest f from → IsHonest f to
+
+-- the calls of a line, of a lane, of lanes are those that follow it
+abbrev pub LinesFollow : Type 0
+LinesFollow = (f : Fixed) (who : ℕ) (r : Run) (l : Line) → Brings f r (did f who r l) (FollowsLine f.rows who l r.hand (did f who r l).hand)
+
+abbrev pub LanesFollow : Type 0
+LanesFollow = (f : Fixed) (who : ℕ) (r : Run) (lane : List Line) → Brings f r (served f who r lane) (Follows f.rows who lane)
+
+abbrev pub AllLanesFollow : Type 0
+AllLanesFollow = (f : Fixed) (who : ℕ) (r : Run) (lanes : List (List Line)) → Brings f r (served_all f who r lanes) (Each (Follows f.rows who) lanes)
+
+-- those of joining are a call each
+abbrev pub JoinsFollow : Type 0
+JoinsFollow = (f : Fixed) (who : ℕ) (r : Run) (parties : List ℕ) → Brings f r (joined_all f who r parties) (Each (Joins who) parties)
+
+-- those of settling are rounds
+abbrev pub SettlingFollows : Type 0
+SettlingFollows = (f : Fixed) (who : ℕ) (r : Run) → Brings f r (settled f who r) (AreRounds 6 f who r.state)
+
+-- so the serial history is legal
+abbrev pub SerialIsHonest : Type 0
+SerialIsHonest = (f : Fixed) (parties : List ℕ) (lanes : List (List Line)) → IsHonest f (serial f parties lanes)
+
+abbrev pub SerialFollows : Type 0
+SerialFollows = (f : Fixed) (parties : List ℕ) (lanes : List (List Line)) → IsSerial f 0 parties lanes (serial f parties lanes).log
