@@ -1,10 +1,8 @@
 -- The circuits of each accepted script are circuits with fitting values: an invariant of the places.
-use Rattle.std.proofs.Common.{◌≡◌, ℕ, suc, ◌+◌, ◌-◌, ◌*◌, ◌%◌, ◌<◌, ◌≤◌, Bool, true, false, cond, not, ◌&&◌, List, [], ◌∷◌, ◌++◌, length, replicate, All, Option, Some, None, Result, Ok, Err, IfOk, refl, ap, subst, arith, lt-ltb, nat_eq, nat_le, nat_lt, leb-true, ltb-true, drop, is_none, if◌then◌else◌, codes, ◌==◌}
+use Rattle.std.proofs.Common.{◌≡◌, ℕ, ◌+◌, ◌-◌, ◌*◌, ◌%◌, ◌<◌, Bool, true, false, cond, not, ◌&&◌, List, [], ◌∷◌, length, All, Option, Some, None, Result, Ok, Err, IfOk, refl, arith, nat_le, nat_lt, ltb-true, drop, is_none, codes, ◌==◌}
 use Rattle.std.specs.Prelude.{⊤}
-use Rattle.std.specs.List.{list_all, list_any}
-use Rattle.std.proofs.lemmas.List.{length-append, length-replicate}
-use Rattle.std.proofs.lemmas.List.Elements.{All-append, All-replicate, All-cons, All-nil}
-use Rattle.std.proofs.lemmas.List.Sums.{AllPass-from_list_all, list_all-from_AllPass}
+use Rattle.std.specs.List.{list_any}
+use Rattle.std.proofs.lemmas.List.Elements.{All-append, All-cons, All-nil}
 use Rattle.std.proofs.lemmas.Result.{IfOk-at_ok}
 use Rattle.ring_spec.specs.Ring.{IsPoly}
 use Rattle.param_set.specs.declared.raw.RawParams.{RawParams}
@@ -12,7 +10,7 @@ use Rattle.param_set.specs.declared.raw.Field.{Field}
 use Rattle.param_set.specs.Rules.{first_bad, root_power, is_degree, is_modulus, within}
 use Rattle.circuit_form.specs.declared.node.Node.{Node}
 use Rattle.circuit_form.specs.declared.node.Node.TheVariants as node
-use Rattle.circuit_form.specs.Circuits.{fits, may_stand, first_wrong, first_fault, owners}
+use Rattle.circuit_form.specs.Circuits.{may_stand, first_wrong, owners}
 use Rattle.session_rules.specs.declared.line.Line.{Line}
 use Rattle.session_script.specs.declared.reason.Reason.{Reason}
 use Rattle.session_script.specs.declared.reason.Reason.TheVariants as reason
@@ -20,47 +18,18 @@ use Rattle.session_script.specs.declared.place.Draft.{Draft}
 use Rattle.session_script.specs.declared.place.OpenCircuit.{OpenCircuit}
 use Rattle.session_script.specs.declared.place.Place.{Place}
 use Rattle.session_script.specs.declared.place.Place.TheVariants as place
-use Rattle.session_script.specs.Form.{filled}
 use Rattle.session_script.specs.Lines.{words, word_at, leads, all_plain, is_skipped}
-use Rattle.session_script.specs.Checks.{◌>>=◌, unless, is_statement, number_at, numbers_behind, party}
+use Rattle.session_script.specs.Checks.{◌>>=◌, is_statement, number_at, numbers_behind, party}
 use Rattle.session_script.specs.Asked.{Numbers, Named, Asked}
 use Rattle.session_script.specs.Heads.{version_statement, given_params, judged, params_statement, master_seed, seed_statement, rising, present_statement}
-use Rattle.session_script.specs.CircuitLines.{is_name, has_name, circuit_statement, has_room, is_earlier, plain, input_statement, const_node, operands, neg_node, may_turn, is_turn, rot_statement, other_node, is_circuit, circuit_end, in_circuit, with_node}
+use Rattle.session_script.specs.CircuitLines.{is_name, has_name, circuit_statement, has_room, is_earlier, plain, input_statement, const_node, operands, neg_node, may_turn, is_turn, rot_statement, other_node, is_circuit, circuit_end, in_circuit}
 use Rattle.session_script.specs.LaneLines.{lane_statement, lane_line, lane_end, in_lane, workers_statement}
 use Rattle.session_script.specs.Scripts.{done_statement, between_lanes, between_circuits, statement, spoken, after_line, Refusal, ended, past_line, read_from}
 use Rattle.session_script.specs.Kept.{IsNamed, AreNamed}
-
--- ---- checks
-
--- past a check, its test holds
-past_test : {B : Type 0} (P : B → Type 0) (test : Bool) (r : Reason) (next : Unit {0} → Result B Reason) → (test ≡ true → IfOk (next tt) P) → IfOk (unless test r >>= next) P
-past_test P true r next k = k refl
-past_test P false r next k = tt
-
--- past a step, there is its value
-past : {A B : Type 0} (P : B → Type 0) (step : Result A Reason) (next : A → Result B Reason) → ((x : A) → step ≡ Ok x → IfOk (next x) P) → IfOk (step >>= next) P
-past P (Ok x) next k = k x refl
-past P (Err r) next k = tt
-
--- past a step of whose value this is known
-past_known : {A B : Type 0} (Q : A → Type 0) (P : B → Type 0) (step : Result A Reason) (next : A → Result B Reason) → IfOk step Q → ((x : A) → Q x → IfOk (next x) P) → IfOk (step >>= next) P
-past_known Q P (Ok x) next known k = k x known
-past_known Q P (Err r) next known k = tt
-
--- of both ways of a choice
-either : {B : Type 0} (P : B → Type 0) (test : Bool) (one other : Result B Reason) → IfOk one P → IfOk other P → IfOk (if test then one else other) P
-either P true one other p q = p
-either P false one other p q = q
+use Rattle.session_script.proofs.Chains.{past_test, past, past_known, either, chosen, both}
+use Rattle.session_script.proofs.BegunCircuits.{IsBegun, plain-fits, stands_behind, input-begun, IsOther, other-begun, poly-fits}
 
 -- ---- what is kept
-
--- of a circuit that has begun
-pub record IsBegun (numbers : Numbers) (begun : OpenCircuit) : Type 0 where
-  pub name : is_name begun.name ≡ true
-  pub count : length begun.values ≡ length (owners begun.nodes)
-  pub values : All (IsPoly numbers.t numbers.n) begun.values
-  pub few : length begun.nodes ≤ 256
-  pub stand : first_wrong numbers.n numbers.t numbers.parties 0 begun.nodes ≡ None
 
 -- of a script behind its head
 record IsDrafted (draft : Draft) : Type 0 where
@@ -140,100 +109,6 @@ circuit-sound draft words drafted =
     past_test Sound (not (list_any (has_name (word_at words 1)) draft.circuits)) reason.Name _ (λ new.
     (drafted, record { name = name; count = refl; values = All-nil (IsPoly draft.frame.t draft.frame.n); few = omega arith; stand = refl })))))
 
--- each coefficient that passes a test keeps it
-all-below : (t : ℕ) (xs : List ℕ) → list_all (λ x. nat_lt x t) xs ≡ true → All (λ x. x < t) xs
-all-below t xs e = λ k d inside. ltb-true _ t (AllPass-from_list_all (λ x. nat_lt x t) xs e k d inside)
-
--- both of two tests hold
-both : (a b : Bool) → (a && b) ≡ true → (a ≡ true) × (b ≡ true)
-both true b e = (refl, e)
-both false b e = (cc, cc)
-
--- a choice between a value and a refusal
-chosen : {A : Type 0} (P : A → Type 0) (test : Bool) (v : A) (r : Reason) → (test ≡ true → P v) → IfOk {T = A} {E = Reason} (if test then Ok v else Err r) P
-chosen P true v r k = k refl
-chosen P false v r k = tt
-
--- filled up, the coefficients are a polynomial
-IsPoly-filled : (n t : ℕ) (xs : List ℕ) → 0 < t → length xs ≤ n → All (λ x. x < t) xs → IsPoly t n (filled n xs)
-IsPoly-filled n t xs positive short below = record {
-  entries = omega (arith, length-append xs (replicate (n - length xs) 0), length-replicate {A = ℕ} (n - length xs) 0);
-  below = All-append (λ x. x < t) xs (replicate (n - length xs) 0) below (All-replicate (λ x. x < t) (n - length xs) 0 positive);
-}
-
-plain-fits : (numbers : Numbers) (coeffs : List ℕ) → 0 < numbers.t → IfOk (plain numbers coeffs) (IsPoly numbers.t numbers.n)
-unfolding plain
-plain-fits numbers coeffs some =
-    chosen (IsPoly numbers.t numbers.n) (nat_le (length coeffs) numbers.n && list_all (λ x. nat_lt x numbers.t) coeffs) (filled numbers.n coeffs) reason.Node (λ passed.
-    let tests = both (nat_le (length coeffs) numbers.n) (list_all (λ x. nat_lt x numbers.t) coeffs) passed in
-    IsPoly-filled numbers.n numbers.t coeffs some (leb-true (length coeffs) numbers.n tests.0) (all-below numbers.t coeffs tests.1))
-
--- the owners of a node more
-owners-append : (nodes : List Node) (added : Node) → owners (nodes ++ added ∷ []) ≡ owners nodes ++ owners (added ∷ [])
-unfolding owners
-owners-append [] added = refl
-owners-append (node.Input owner ∷ rest) added = ap (λ os. owner ∷ os) (owners-append rest added)
-owners-append (node.Const value ∷ rest) added = owners-append rest added
-owners-append (node.Add left right ∷ rest) added = owners-append rest added
-owners-append (node.Sub left right ∷ rest) added = owners-append rest added
-owners-append (node.Neg of ∷ rest) added = owners-append rest added
-owners-append (node.Mul left right ∷ rest) added = owners-append rest added
-owners-append (node.Rot g of ∷ rest) added = owners-append rest added
-
--- where a list of nodes stands, so does its first, and the rest
-first_stands : (b : Bool) (rest : Option ℕ) (k : ℕ) → cond b rest (Some k) ≡ None → (b ≡ true) × (rest ≡ None)
-first_stands true rest k e = (refl, e)
-first_stands false rest k e = (cc, cc)
-
--- a node that may stand behind nodes that do
-first_wrong-append : (n t parties k : ℕ) (nodes : List Node) (added : Node) → first_wrong n t parties k nodes ≡ None → may_stand n t parties (k + length nodes) added ≡ true → first_wrong n t parties k (nodes ++ added ∷ []) ≡ None
-unfolding first_wrong
-first_wrong-append n t parties k [] added e stands =
-    let place : ◌≡◌ {A = ℕ} (k + 0) k = omega arith in
-    let here = subst (λ (m : ℕ). may_stand n t parties m added ≡ true) place stands in
-    rw here refl
-first_wrong-append n t parties k (node ∷ rest) added e stands =
-    let parts = first_stands (may_stand n t parties k node) (first_wrong n t parties (k + 1) rest) k e in
-    let place : ◌≡◌ {A = ℕ} (k + suc (length rest)) (k + 1 + length rest) = omega arith in
-    let behind = first_wrong-append n t parties (k + 1) rest added parts.1 (subst (λ (m : ℕ). may_stand n t parties m added ≡ true) place stands) in
-    rw parts.0 behind
-
--- whether a node may stand behind those of a circuit
-abbrev stands_behind : Numbers → OpenCircuit → Node → Bool
-stands_behind numbers begun added = may_stand numbers.n numbers.t numbers.parties (length begun.nodes) added
-
--- one node more stands
-all-stand : (numbers : Numbers) (begun : OpenCircuit) (added : Node) → IsBegun numbers begun → stands_behind numbers begun added ≡ true → first_wrong numbers.n numbers.t numbers.parties 0 (begun.nodes ++ added ∷ []) ≡ None
-all-stand numbers begun added b stands =
-    let place : ◌≡◌ {A = ℕ} (length begun.nodes) (0 + length begun.nodes) = omega arith in
-    first_wrong-append numbers.n numbers.t numbers.parties 0 begun.nodes added b.stand (subst (λ (m : ℕ). may_stand numbers.n numbers.t numbers.parties m added ≡ true) place stands)
-
--- an input more, and its value
-input-begun : (numbers : Numbers) (begun : OpenCircuit) (owner : ℕ) (value : List ℕ) → IsBegun numbers begun → length begun.nodes < 256 → stands_behind numbers begun (node.Input owner) ≡ true → IsPoly numbers.t numbers.n value → IsBegun numbers (record (with_node begun (node.Input owner)) { values = begun.values ++ value ∷ [] })
-unfolding owners
-input-begun numbers begun owner value b room stands fits = record {
-  name = b.name;
-  count = omega (arith, b.count, length-append begun.values (value ∷ []), ap length (owners-append begun.nodes (node.Input owner)), length-append (owners begun.nodes) (owner ∷ []));
-  values = All-append (IsPoly numbers.t numbers.n) begun.values (value ∷ []) b.values (All-cons (IsPoly numbers.t numbers.n) value [] fits (All-nil (IsPoly numbers.t numbers.n)));
-  few = omega (arith, room, length-append begun.nodes (node.Input owner ∷ []));
-  stand = all-stand numbers begun (node.Input owner) b stands;
-}
-
--- a node that is no input, and may stand
-record IsOther (numbers : Numbers) (begun : OpenCircuit) (added : Node) : Type 0 where
-  no_owner : owners (added ∷ []) ≡ []
-  room : length begun.nodes < 256
-  stands : stands_behind numbers begun added ≡ true
-
-other-begun : (numbers : Numbers) (begun : OpenCircuit) (added : Node) → IsBegun numbers begun → IsOther numbers begun added → IsBegun numbers (with_node begun added)
-other-begun numbers begun added b other = record {
-  name = b.name;
-  count = omega (arith, b.count, ap length (owners-append begun.nodes added), length-append (owners begun.nodes) (owners (added ∷ [])), ap length other.no_owner);
-  values = b.values;
-  few = omega (arith, other.room, length-append begun.nodes (added ∷ []));
-  stand = all-stand numbers begun added b other.stands;
-}
-
 -- a party's number is one that may own an input
 party-known : (numbers : Numbers) (p : ℕ) → IfOk (party numbers p) (λ owner. (nat_le 1 owner && nat_le owner numbers.parties) ≡ true)
 party-known numbers p = chosen (λ owner. (nat_le 1 owner && nat_le owner numbers.parties) ≡ true) (nat_le 1 p && nat_le p numbers.parties) p reason.Party (λ is. is)
@@ -288,13 +163,6 @@ made-known numbers begun words made none stands =
     past_known (Known begun) (IsOther numbers begun) (operands begun words) _ (operands-known begun words) (λ ab known.
     record { no_owner = none ab.0 ab.1; room = known.0; stands = stands ab.0 ab.1 known.1 })
 
--- a polynomial is a constant that may stand
-poly-fits : (n t : ℕ) (value : List ℕ) → IsPoly t n value → fits n t value ≡ true
-poly-fits n t value poly =
-    let long : nat_eq (length value) n ≡ true = grind (arith, poly.entries) in
-    let below : list_all (λ x. nat_lt x t) value ≡ true = list_all-from_AllPass (λ x. nat_lt x t) value (λ k d inside. lt-ltb _ t (poly.below k d inside)) in
-    rw (long, below) refl
-
 const-known : (draft : Draft) (begun : OpenCircuit) (words : List (List ℕ)) → IsDrafted draft → IfOk (const_node draft begun words) (IsOther draft.frame begun)
 unfolding const_node owners may_stand
 const-known draft begun words d =
@@ -321,14 +189,6 @@ other-known draft begun words d =
     (either (IsOther draft.frame begun) (leads (codes "add") words) _ _ (made-known draft.frame begun words (λ x y. node.Add x y) (λ x y. refl) (λ x y e. e))
     (either (IsOther draft.frame begun) (leads (codes "sub") words) _ _ (made-known draft.frame begun words (λ x y. node.Sub x y) (λ x y. refl) (λ x y e. e))
     (either (IsOther draft.frame begun) (leads (codes "mul") words) _ _ (made-known draft.frame begun words (λ x y. node.Mul x y) (λ x y. refl) (λ x y e. e)) tt))))
-
--- nodes that stand are a circuit, if there is one: so only the lack of any makes `end` a wrong node
-pub only_empty : (numbers : Numbers) (begun : OpenCircuit) → IsBegun numbers begun → 0 < length begun.nodes → is_circuit numbers begun.nodes ≡ true
-unfolding first_fault
-only_empty numbers begun b some =
-    let none : nat_eq (length begun.nodes) 0 ≡ false = grind (arith, some) in
-    let short : nat_lt 256 (length begun.nodes) ≡ false = grind (arith, b.few) in
-    rw (none, short, b.stand) refl
 
 -- what is none, is none
 is-none : (o : Option ℕ) → is_none o ≡ true → o ≡ None

@@ -1,3 +1,5 @@
+pub mod BegunCircuits
+pub mod Chains
 pub mod EntriesLemmas
 pub mod FitsLemmas
 pub mod KeptLemmas
