@@ -132,7 +132,7 @@ turn_next f s caller c now may admitted k =
 
 pub move_ordered : (f : Fixed) (present : ℕ) (is : List Instance) (circuits : List CircuitState) (m : Move) → Ordered f present circuits is → MoveIs f present is circuits m → Ordered f present circuits (instances_after is m)
 unfolding instances_after fresh least_present
-move_ordered f present is circuits m o (gives_up i by none n d e) = rw e (give_up_ordered is i by f present circuits o n d none)
+move_ordered f present is circuits m o (gives_up i by none n d lost e) = rw e (give_up_ordered is i by f present circuits o n d none)
 move_ordered f present is circuits m o (second i none n d all needed e) = rw e
     (issue_ordered f present circuits is Rlk2 i.set i.id o none (o.sound i n).set (o.sound i n).parties
     (λ p h. none_outside i.set.bits present p all h) (λ c its. cc)
@@ -144,7 +144,7 @@ move_ordered f present is circuits m o (other σ no_second none many needed e) =
 
 move_later : (f : Fixed) (present : ℕ) (is : List Instance) (circuits : List CircuitState) (m : Move) → Ordered f present circuits is → MoveIs f present is circuits m → AreLater is (instances_after is m)
 unfolding instances_after after_void
-move_later f present is circuits m o (gives_up i by none n d e) = rw e (map_later _ is (give_up_later is i by f present circuits o n d))
+move_later f present is circuits m o (gives_up i by none n d lost e) = rw e (map_later _ is (give_up_later is i by f present circuits o n d))
 move_later f present is circuits m o (second i none n d all needed e) = rw e (push_later is (fresh is Rlk2 i.set i.id))
 move_later f present is circuits m o (other σ no_second none many needed e) = rw e (push_later is (fresh is σ (least_present f present) 0))
 
@@ -166,8 +166,8 @@ pub change_next : (caller : ℕ) (f : Fixed) (s t : State) → Kept f s → Chan
 change_next caller f s t k (joins p _ e) = subst (λ (z : State). Next f s z) (sym e) (join_next f s p k)
 change_next caller f s t k (loses p h e) = subst (λ (z : State). Next f s z) (sym e) (lose_next f s p h k)
 change_next caller f s t k (counts id p i found member alive unsent e) = subst (λ (z : State). Next f s z) (sym e) (count_next f s id p i found member alive unsent k)
-change_next caller f s t k (gives c j e) = subst (λ (z : State). Next f s z) (sym e) (give_next f s c j k)
-change_next caller f s t k (turns c now may admitted e) = subst (λ (z : State). Next f s z) (sym e) (turn_next f s caller c now may admitted k)
+change_next caller f s t k (gives c j done e) = subst (λ (z : State). Next f s z) (sym e) (give_next f s c j k)
+change_next caller f s t k (turns c now may admitted begins e) = subst (λ (z : State). Next f s z) (sym e) (turn_next f s caller c now may admitted k)
 change_next caller f s t k (moves m next e) = subst (λ (z : State). Next f s z) (sym e) (move_next f s m next k)
 
 pub anybody_joins : (c : Call) → Joins Anybody c

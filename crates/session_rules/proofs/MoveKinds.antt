@@ -7,7 +7,7 @@ use Rattle.std.proofs.lemmas.Bool.{and_parts, leb-true, both_ways, not-true}
 use Rattle.share_spec.specs.Sets.{count}
 use Rattle.proto_names.specs.Names.{same}
 use Rattle.proto_names.specs.Instances.{is_done}
-use Rattle.proto_names.specs.Groups.{first_outside}
+use Rattle.proto_names.specs.Groups.{is_outside, first_outside}
 use Rattle.proto_names.specs.declared.signature.Signature.{Signature}
 use Rattle.proto_names.specs.declared.signature.Signature.TheVariants.{Rlk1, Rlk2, Dec}
 use Rattle.proto_names.specs.declared.instance.Instance.{Instance}
@@ -45,7 +45,7 @@ map_some : {A B : Type 0} (g : A → B) (o : Option A) (y : B) → option_map g 
 map_some g None y e = cc
 map_some g (Some x) y e = record { from = x; was = refl; gives = cc }
 
-map_none : {A B : Type 0} (g : A → B) (o : Option A) → option_map g o ≡ None → o ≡ None
+pub map_none : {A B : Type 0} (g : A → B) (o : Option A) → option_map g o ≡ None → o ≡ None
 map_none g None e = refl
 map_none g (Some x) e = cc
 
@@ -68,10 +68,10 @@ evaluated_is Evaluated e = refl
 evaluated_is Answered e = cc
 
 -- a signature that is needed, and may be issued
-record IsNext (f : Fixed) (present : ℕ) (is : List Instance) (circuits : List CircuitState) (σ : Signature) : Type 0 where
-  none : has_live σ is ≡ false
-  stands : condition f present is σ ≡ true
-  needed : IsNeeded f circuits σ
+pub record IsNext (f : Fixed) (present : ℕ) (is : List Instance) (circuits : List CircuitState) (σ : Signature) : Type 0 where
+  pub none : has_live σ is ≡ false
+  pub stands : condition f present is σ ≡ true
+  pub needed : IsNeeded f circuits σ
 
 may_be : (f : Fixed) (present : ℕ) (is : List Instance) (σ : Signature) → may_issue f present is σ ≡ true → (has_live σ is ≡ false) × (condition f present is σ ≡ true)
 unfolding may_issue
@@ -88,7 +88,7 @@ decryption_is f present is circuits σ e =
     subst (λ (τ : Signature). IsNext f present is circuits τ) image.gives
     (record { none = may.0; stands = may.1; needed = decryption c refl found.0 (evaluated_is (circuit circuits c) both.0) })
 
-next_is : (f : Fixed) (present : ℕ) (is : List Instance) (circuits : List CircuitState) (σ : Signature) → next_signature f present is circuits ≡ Some σ → IsNext f present is circuits σ
+pub next_is : (f : Fixed) (present : ℕ) (is : List Instance) (circuits : List CircuitState) (σ : Signature) → next_signature f present is circuits ≡ Some σ → IsNext f present is circuits σ
 unfolding next_signature
 next_is f present is circuits σ e = elim (or_some (find (may_issue f present is) (keys f)) (next_decryption f present is circuits) σ e) [
   | inl found ↦
@@ -101,18 +101,18 @@ next_is f present is circuits σ e = elim (or_some (find (may_issue f present is
 -- ---- the moves
 
 pub data MoveIs (f : Fixed) (present : ℕ) (is : List Instance) (circuits : List CircuitState) (m : Move) : Type 0 where
-  gives_up : (i : Instance) (by : ℕ) → has_live Rlk2 is ≡ false → Contains is i → IsDone Rlk1 i → m ≡ GiveUp i.id by → MoveIs f present is circuits m
+  gives_up : (i : Instance) (by : ℕ) → has_live Rlk2 is ≡ false → Contains is i → IsDone Rlk1 i → is_outside i.set.bits present by ≡ true → m ≡ GiveUp i.id by → MoveIs f present is circuits m
   second : (i : Instance) → has_live Rlk2 is ≡ false → Contains is i → IsDone Rlk1 i → first_outside i.set.bits present ≡ None → IsNeeded f circuits Rlk2 → m ≡ Issue Rlk2 i.set i.id → MoveIs f present is circuits m
   other : (σ : Signature) → σ ≢ Rlk2 → has_live σ is ≡ false → f.threshold ≤ count present → IsNeeded f circuits σ → m ≡ Issue σ (least_present f present) 0 → MoveIs f present is circuits m
 
 rule_1_is : (f : Fixed) (present : ℕ) (is : List Instance) (circuits : List CircuitState) (m : Move) → rule_1 present is ≡ Some m → MoveIs f present is circuits m
-unfolding rule_1 outdated
+unfolding rule_1 outdated first_outside
 rule_1_is f present is circuits m e =
     let u = unless_some (has_live Rlk2 is) (option_and_then (outdated present) (find (is_done Rlk1) is)) m e in
     let t = and_then_some (outdated present) (find (is_done Rlk1) is) m u.1 in
     let found = find_some (is_done Rlk1) is t.from t.was in
     let image = map_some (GiveUp t.from.id) (first_outside t.from.set.bits present) m t.gives in
-    gives_up t.from image.from u.0 found.0 (done_is Rlk1 t.from found.1) (sym image.gives)
+    gives_up t.from image.from u.0 found.0 (done_is Rlk1 t.from found.1) (find_some (is_outside t.from.set.bits present) (range_with_len 1 32) image.from image.was).1 (sym image.gives)
 
 -- where rule 1 does not apply, all parties of a complete first round are present
 all_present : (present : ℕ) (is : List Instance) (i : Instance) → rule_1 present is ≡ None → has_live Rlk2 is ≡ false → find (is_done Rlk1) is ≡ Some i → first_outside i.set.bits present ≡ None

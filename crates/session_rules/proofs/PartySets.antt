@@ -4,7 +4,7 @@ use Rattle.std.specs.List.{range_with_len}
 use Rattle.std.specs.Int.{bit_at, bit_not}
 use Rattle.std.proofs.lemmas.Bool.{and_parts, and_from, and_cases, leb-true, le-leb, eqb-true, eq-eqb, cases_Bool, cases_eq, cases_lt, both_ways, not-false, false_from_ne_true}
 use Rattle.std.proofs.lemmas.Nat.{one_shl, or_of_32, and_le_l}
-use Rattle.std.proofs.lemmas.Nat.Bits.{bit_at_or, bit_at-lt, bit_at-pow_other, bit_at_clear_other, bit_at-zero}
+use Rattle.std.proofs.lemmas.Nat.Bits.{bit_at_or, bit_at-lt, bit_at-pow_other, bit_at-pow_same, bit_at_clear_other, bit_at-zero}
 use Rattle.std.proofs.lemmas.List.{length-take}
 use Rattle.std.proofs.lemmas.List.Sums.{length-filter}
 use Rattle.share_spec.specs.Sets.{has, members_to, members, count}
@@ -46,6 +46,14 @@ with_keeps set p q h =
   where
     grown : (x : ℕ) → x < 2 → max 1 x ≡ 1
     grown x l = omega arith
+
+pub with_has : (set p : ℕ) → 1 ≤ p → p ≤ 32 → has (with_party set p) p ≡ true
+unfolding with_party
+with_has set p first last =
+    has_from (bit_or set (2 ^ (p - 1))) p (record { first = first; last = last; bit = bit_at_or set (2 ^ (p - 1)) (p - 1) ∙ grown (bit_at set (p - 1)) (bit_at (2 ^ (p - 1)) (p - 1)) (bit_at-lt set (p - 1)) (bit_at-pow_same (p - 1)) })
+  where
+    grown : (x y : ℕ) → x < 2 → y ≡ 1 → max x y ≡ 1
+    grown x y l e = omega arith
 
 pub with_cases : (set p q : ℕ) → 1 ≤ p → has (with_party set p) q ≡ true → (q ≡ p) ⊎ (has set q ≡ true)
 unfolding with_party

@@ -26,7 +26,7 @@ use Rattle.session_rules.specs.Issues.{keys, enough, condition, may_issue, may_d
 use Rattle.session_rules.specs.Steps.{join, lose, after_loss, deliver, by_stage, accepted, counted, answered_by, input, is_input, with_input, take, next_ready, ready, with_circuit, finish, give_back, step}
 use Rattle.session_rules.specs.Histories.{after}
 use Rattle.session_rules.specs.Facts.{Kept, IsAtRest, CallsLeaveRest, HistoriesLeaveRest}
-use Rattle.session_rules.proofs.Changes.{Change, joins, loses, counts, turns, MayTurn, after_count}
+use Rattle.session_rules.proofs.Changes.{begun_before, Change, joins, loses, counts, turns, MayTurn, after_count}
 use Rattle.session_rules.proofs.Contained.{contains_here, contains_there, find_some}
 use Rattle.session_rules.proofs.Marks.{instance_within, one_number, done_is}
 use Rattle.session_rules.proofs.Shares.{lacking_opened}
@@ -254,7 +254,7 @@ module _ (f : Fixed) (s : State) (caller : ℕ) (k : Kept f s) (rest : IsAtRest 
   unfolding finish
   finish_rests c =
       choose (is_taken_by caller (circuit s.circuits c)) (reply.Finished, issue f (with_circuit s c Evaluated)) (reply.NotTaken, s)
-      (λ e. issues _ (turns c Evaluated (inr e) refl refl)) (λ _. rest)
+      (λ e. issues _ (turns c Evaluated (inr e) refl (λ _. inr (begun_before caller (circuit s.circuits c) e)) refl)) (λ _. rest)
 
   give_back_rests : (c : ℕ) → Rests (give_back s caller c).1
   unfolding give_back

@@ -47,7 +47,7 @@ answered_at circuits c = elim (cases_lt c (length circuits)) [
   | inr more ↦ get_or_past (set circuits c Answered) c Answered (omega (arith, length-set circuits c Answered))
 ]
 
-answered_its : (σ : Signature) (circuits : List CircuitState) (c : ℕ) → σ ≡ Dec c → circuit (answered_by σ circuits) c ≡ Answered
+pub answered_its : (σ : Signature) (circuits : List CircuitState) (c : ℕ) → σ ≡ Dec c → circuit (answered_by σ circuits) c ≡ Answered
 unfolding answered_by
 answered_its σ circuits c e = rw e (answered_at circuits c)
 

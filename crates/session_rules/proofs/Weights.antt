@@ -70,14 +70,14 @@ here_less false true x us vs e h l = omega arith
 here_less false false x us vs e h l = cc
 
 -- and one passes that did not
-passing_less : {X : Type 0} (a b : X → Bool) (xs : List X) (it : X) → ((x : X) → a x ≡ true → b x ≡ true) → Contains xs it → a it ≡ false → b it ≡ true → length (filter a xs) + 1 ≤ length (filter b xs)
+pub passing_less : {X : Type 0} (a b : X → Bool) (xs : List X) (it : X) → ((x : X) → a x ≡ true → b x ≡ true) → Contains xs it → a it ≡ false → b it ≡ true → length (filter a xs) + 1 ≤ length (filter b xs)
 passing_less a b [] it h m no_ yes_ = absurd (contains_nil it m)
 passing_less a b (x ∷ xs) it h m no_ yes_ = elim (contains_cases x xs it m) [
   | inl e ↦ here_less (a x) (b x) x (filter a xs) (filter b xs) (rw e no_) (rw e yes_) (passing_le a b xs h)
   | inr rest ↦ two_less (a x) (b x) x (filter a xs) (filter b xs) (h x) (passing_less a b xs it h rest no_ yes_)
 ]
 
-passing_all : {X : Type 0} (a : X → Bool) (xs : List X) → length (filter a xs) ≤ length xs
+pub passing_all : {X : Type 0} (a : X → Bool) (xs : List X) → length (filter a xs) ≤ length xs
 passing_all a [] = omega arith
 passing_all a (x ∷ xs) = at (a x) (passing_all a xs)
   where
@@ -132,7 +132,7 @@ one_first f circuits =
     sum_up : (all front pair a b c d : ℕ) → all ≡ front + d → front ≡ pair + c → pair ≡ a + b → a ≡ 0 → b ≤ 1 → c ≡ 0 → d ≡ 0 → all ≤ 1
     sum_up all front pair a b c d e1 e2 e3 ea eb ec ed = omega arith
 
-range_length : (a n : ℕ) → length (range_with_len a n) ≡ n
+pub range_length : (a n : ℕ) → length (range_with_len a n) ≡ n
 range_length a zero = refl
 range_length a (suc n) = ap suc (range_length (a + 1) n)
 
@@ -203,7 +203,7 @@ push_lowers f circuits is i none opened needed =
     add_up a b c l = omega arith
 
 -- none is complete where the complete first round is given up
-none_done : (f : Fixed) (present : ℕ) (circuits : List CircuitState) (is : List Instance) (i : Instance) (by : ℕ) → Ordered f present circuits is → Contains is i → IsDone Rlk1 i → has_done Rlk1 (after_void i.id by is) ≡ false
+pub none_done : (f : Fixed) (present : ℕ) (circuits : List CircuitState) (is : List Instance) (i : Instance) (by : ℕ) → Ordered f present circuits is → Contains is i → IsDone Rlk1 i → has_done Rlk1 (after_void i.id by is) ≡ false
 unfolding has_done after_void
 none_done f present circuits is i by o m d = any_none (is_done Rlk1) (map (given_up i.id by) is) (λ b n. false_from_ne_true (is_done Rlk1 b) (λ h.
     let x = contains_map_from (given_up i.id by) is b n in
@@ -260,7 +260,7 @@ void_lowers f present circuits is i by o m d =
 lowers : (f : Fixed) (present : ℕ) (is : List Instance) (circuits : List CircuitState) (m : Move) → Ordered f present circuits is → MoveIs f present is circuits m
     → weight f circuits (instances_after is m) + 1 ≤ weight f circuits is
 unfolding instances_after fresh
-lowers f present is circuits m o (gives_up i by none n d e) = rw e (void_lowers f present circuits is i by o n d)
+lowers f present is circuits m o (gives_up i by none n d lost e) = rw e (void_lowers f present circuits is i by o n d)
 lowers f present is circuits m o (second i none n d all needed e) = rw e (push_lowers f circuits is (fresh is Rlk2 i.set i.id) none refl (needed_in f circuits Rlk2 needed))
 lowers f present is circuits m o (other σ no_second none many needed e) = rw e (push_lowers f circuits is (fresh is σ (least_present f present) 0) none refl (needed_in f circuits σ needed))
 

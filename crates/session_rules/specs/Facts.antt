@@ -10,7 +10,7 @@ use Rattle.proto_names.specs.declared.signature.Signature.TheVariants.{Rlk1, Rlk
 use Rattle.proto_names.specs.declared.instance.Instance.{Instance}
 use Rattle.proto_names.specs.declared.instance.Stage.TheVariants.{Opened, Complete, Void}
 use Rattle.session_rules.specs.declared.state.CircuitState.{CircuitState}
-use Rattle.session_rules.specs.declared.state.CircuitState.TheVariants.{Taken, Evaluated, Answered}
+use Rattle.session_rules.specs.declared.state.CircuitState.TheVariants.{Refused, Idle, Taken, Evaluated, Answered}
 use Rattle.session_rules.specs.declared.fixed.Fixed.{Fixed}
 use Rattle.session_rules.specs.declared.call.Call.{Call}
 use Rattle.session_rules.specs.declared.call.Call.TheVariants as call
@@ -118,6 +118,14 @@ pub record IsSameLater (before now : Instance) : Type 0 where
 -- a circuit that is evaluated, whether or not it is answered
 abbrev pub is_settled : CircuitState → Bool
 is_settled now = is_evaluated now || is_answered now
+
+-- a circuit that is taken, evaluated or answered
+abbrev pub is_begun : CircuitState → Bool
+is_begun (Refused place bound limit) = false
+is_begun Idle = false
+is_begun (Taken caller) = true
+is_begun Evaluated = true
+is_begun Answered = true
 
 -- a state, and a later one
 pub record IsLater (before now : State) : Type 0 where

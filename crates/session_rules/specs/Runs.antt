@@ -1,17 +1,25 @@
 -- What those that act in a session bring about.
-use Rattle.std.specs.Prelude.{◌≡◌, ℕ, zero, suc, true, false, List, [], ◌∷◌, ◌++◌, length, Some, None}
+use Rattle.std.specs.Prelude.{◌≡◌, ℕ, zero, suc, ◌<◌, true, false, ◌⊎◌, List, [], ◌∷◌, ◌++◌, length, Some, None}
+use Rattle.std.specs.List.{slice_index_or, list_all, Contains}
 use Rattle.share_spec.specs.Sets.{members}
+use Rattle.proto_names.specs.declared.signature.Signature.TheVariants.{Pk, Dec}
+use Rattle.proto_names.specs.declared.instance.Instance.{Instance}
+use Rattle.circuit_form.specs.declared.node.Node.{Node}
+use Rattle.noise_ledger.specs.Bounds.{Numbers}
 use Rattle.session_rules.specs.declared.call.Call.{Call}
 use Rattle.session_rules.specs.declared.call.Call.TheVariants as call
 use Rattle.session_rules.specs.declared.call.Entry.{Entry}
 use Rattle.session_rules.specs.declared.reply.Reply.{Reply}
 use Rattle.session_rules.specs.declared.line.Line.{Line}
 use Rattle.session_rules.specs.declared.fixed.Fixed.{Fixed}
-use Rattle.session_rules.specs.States.{State}
+use Rattle.session_rules.specs.States.{State, plan, circuit, is_given, is_refused, is_admitted, has_done}
+use Rattle.session_rules.specs.Issues.{keys as needed_keys}
+use Rattle.session_rules.specs.Steps.{is_given_input, has_keys, step}
+use Rattle.session_rules.specs.Fixing.{fixed_of}
 use Rattle.session_rules.specs.Histories.{after, replayed, state_after, IsLegal}
 use Rattle.session_rules.specs.Lanes.{Run, job, called, did, served, served_all, joined_all, is_settled, settled, serial}
 use Rattle.session_rules.specs.Followed.{Calls, OneCall, Each, Sends, FollowsLine, Follows}
-use Rattle.session_rules.specs.Facts.{answered}
+use Rattle.session_rules.specs.Facts.{is_begun, Kept, answered}
 
 -- ---- runs that go on
 
@@ -63,6 +71,25 @@ IsSerial f who parties lanes es =
     (joins : List Entry) × (lines : List Entry) × (rounds : List Entry) × (es ≡ joins ++ lines ++ rounds)
     × Each (Joins who) parties joins × Each (Follows f.rows who) lanes lines × AreRounds 6 f who (state_after f (joins ++ lines)) rounds
 
+-- ---- what more holds in every state that calls lead to
+
+-- the inputs of a circuit have a place each; a public key is complete where one is given; a circuit that is
+-- begun has its inputs and its keys; each instance is of a key or a decryption; and the refused circuits
+-- are those that began so
+pub record Grounded (f : Fixed) (s : State) : Type 0 where
+  pub rows : (c : ℕ) → length (slice_index_or s.given c []) ≡ length (plan f c).owners
+  pub key : (c k : ℕ) → is_given s c k ≡ true → has_done Pk s.instances ≡ true
+  pub inputs : (c : ℕ) → is_begun (circuit s.circuits c) ≡ true → list_all is_given_input (slice_index_or s.given c []) ≡ true
+  pub keys : (c : ℕ) → is_begun (circuit s.circuits c) ≡ true → has_keys s (plan f c) ≡ true
+  pub asked : (i : Instance) → Contains s.instances i → (Contains (needed_keys f) i.signature) ⊎ ((c : ℕ) × (i.signature ≡ Dec c))
+  pub refused : (c : ℕ) → is_refused (circuit s.circuits c) ≡ is_refused (plan f c).opening
+
+-- the fixed data of circuits: each begins idle or refused, and the rotations are those of the admitted ones
+pub record IsWhole (f : Fixed) : Type 0 where
+  pub begins : (c : ℕ) → c < length f.plans → is_begun (plan f c).opening ≡ false
+  pub turns : (c g : ℕ) → c < length f.plans → is_admitted (plan f c) ≡ true → Contains (plan f c).turns g → Contains f.turns g
+  pub turned : (g : ℕ) → Contains f.turns g → (c : ℕ) × (c < length f.plans) × (is_admitted (plan f c) ≡ true) × Contains (plan f c).turns g
+
 -- ---- laws
 
 -- a call is made with its reply
@@ -97,3 +124,14 @@ SerialIsHonest = (f : Fixed) (parties : List ℕ) (lanes : List (List Line)) →
 
 abbrev pub SerialFollows : Type 0
 SerialFollows = (f : Fixed) (parties : List ℕ) (lanes : List (List Line)) → IsSerial f 0 parties lanes (serial f parties lanes).log
+
+-- every call keeps what more holds, and it holds in every state that calls lead to
+abbrev pub CallsGround : Type 0
+CallsGround = (f : Fixed) (s : State) (caller : ℕ) (c : Call) → Kept f s → Grounded f s → Grounded f (step f s caller c).1
+
+abbrev pub HistoriesGround : Type 0
+HistoriesGround = (f : Fixed) (es : List Entry) → IsWhole f → Grounded f (state_after f es)
+
+-- it holds of the fixed data that is made of circuits
+abbrev pub CircuitsAreWhole : Type 0
+CircuitsAreWhole = (p : Numbers) (circuits : List (List Node)) → IsWhole (fixed_of p circuits)

@@ -1,6 +1,6 @@
 //! What follows from the rules, whatever is called: each function states a law, and does nothing.
 ghost use Rattle.session_rules.specs.Facts.{RefusalsChangeNothing, CallsKeep, HistoriesKeep, PartiesArePresent, CallsLeave, HistoriesLeave, KeysStay, FirstRoundsStay, TakenStays, IssueEnds, IssueIsItsMoves, MovesAreFew, CallsLeaveRest, HistoriesLeaveRest, SharesAreWanted, ShapesAreRefused, SharesAreCountedOnce, CompleteOnesLackNone, FewAreIssued, HistoriesIssueFew, LegalOnesGrow, NextState, BeginningsAreLegal, StatesLeadOn, LaterOnesFollow, TakenStaysOn};
-ghost use Rattle.session_rules.specs.Runs.{CallsGo, HonestOnesGoOn, LinesFollow, LanesFollow, AllLanesFollow, JoinsFollow, SettlingFollows, SerialIsHonest, SerialFollows};
+ghost use Rattle.session_rules.specs.Runs.{CallsGo, HonestOnesGoOn, LinesFollow, LanesFollow, AllLanesFollow, JoinsFollow, SettlingFollows, SerialIsHonest, SerialFollows, CallsGround, HistoriesGround, CircuitsAreWhole};
 
 /// A reply that refuses goes with the state as it was.
 pub fn refusals()
@@ -73,4 +73,13 @@ pub fn following()
 pub fn honesty()
     ensures go_on { HonestOnesGoOn }
     ensures serial { SerialIsHonest }
+{}
+
+/// A circuit that is taken, evaluated or answered has its inputs and its keys, and there is a public key
+/// where an input is given: so it is where the circuits begin idle or refused and the rotations are those
+/// of the admitted ones, as in the fixed data that is made of circuits.
+pub fn grounds()
+    ensures calls { CallsGround }
+    ensures histories { HistoriesGround }
+    ensures whole { CircuitsAreWhole }
 {}
