@@ -17,7 +17,7 @@ use Rattle.session_rules.specs.Histories.{after, replayed}
 use Rattle.session_rules.specs.Lanes.{Held, Run, Lists, listed, briefed, job, reply_of, called, shared, shared_all, given_all, sent, held, gave, worked, quit, did, did_all, served, served_all, sent_by_all, worked_off, round, is_settled, rounds, settled, joined_all, start, serial}
 use Rattle.session_rules.specs.Followed.{OneCall, Each, Delivers, Shares, Gives, Owes, Sends, hand_of, Hands, ThenOne, Works, FollowsLine, FollowsFrom, Follows}
 use Rattle.session_rules.specs.Facts.{answered}
-use Rattle.session_rules.specs.Runs.{Goes, Brings, IsHonest, Joins, WorksOff, IsRound, AreRounds, CallsGo, HonestOnesGoOn, LinesFollow, LanesFollow, AllLanesFollow, JoinsFollow, SettlingFollows, SerialIsHonest, SerialFollows}
+use Rattle.session_rules.specs.Runs.{Goes, Brings, IsHonest, Joins, WorksOff, IsRound, AreRounds, CallsGo, HonestOnesGoOn, LinesFollow, LanesFollow, AllLanesFollow, JoinsFollow, SettlingFollows, SerialIsHonest, SerialFollows, before_settling}
 use Rattle.session_rules.proofs.Runs.{after_append, replayed_append}
 
 -- ---- calls, one after the other
@@ -50,11 +50,11 @@ honest_ones_go_on f r t es g h =
     }
 
 -- what is in hand stays there
-record Steady (f : Fixed) (r t : Run) (Are : List Entry → Type 0) : Type 0 where
-  es : List Entry
-  goes : Goes f r t es
-  are : Are es
-  hand : t.hand ≡ r.hand
+pub record Steady (f : Fixed) (r t : Run) (Are : List Entry → Type 0) : Type 0 where
+  pub es : List Entry
+  pub goes : Goes f r t es
+  pub are : Are es
+  pub hand : t.hand ≡ r.hand
 
 hand_stays : (f : Fixed) (who : ℕ) (r : Run) (c : Call) → (called f who r c).hand ≡ r.hand
 unfolding called
@@ -104,18 +104,18 @@ share_then f who p r id (Some σ) e =
     behind f who r (called f who (called f who r (call.Brief id)) then_) (call.Brief id) (OneCall who then_) (Shares f.rows who p id) (one f who (called f who r (call.Brief id)) then_)
     (λ es n. (reply_of f who r (call.Brief id), es, refl, subst (λ (z : Option Signature). Delivers f.rows who p id z es) (sym e) n))
 
-share_goes : (f : Fixed) (who p : ℕ) (r : Run) (id : ℕ) → Steady f r (shared f who p r id) (Shares f.rows who p id)
+pub share_goes : (f : Fixed) (who p : ℕ) (r : Run) (id : ℕ) → Steady f r (shared f who p r id) (Shares f.rows who p id)
 unfolding shared
 share_goes f who p r id = share_then f who p r id (briefed (reply_of f who r (call.Brief id))) refl
 
-shares_go : (f : Fixed) (who p : ℕ) (r : Run) (ids : List ℕ) → Steady f r (shared_all f who p r ids) (Each (Shares f.rows who p) ids)
+pub shares_go : (f : Fixed) (who p : ℕ) (r : Run) (ids : List ℕ) → Steady f r (shared_all f who p r ids) (Each (Shares f.rows who p) ids)
 unfolding shared_all
 shares_go f who p r [] = none f r (Each (Shares f.rows who p) []) refl
 shares_go f who p r (id ∷ ids) =
     let t = shared f who p r id in
     each f r t (shared_all f who p t ids) (Shares f.rows who p) id ids (share_goes f who p r id) (shares_go f who p t ids)
 
-gives_go : (f : Fixed) (who : ℕ) (r : Run) (places : List (ℕ × ℕ)) → Steady f r (given_all f who r places) (Each (Gives who) places)
+pub gives_go : (f : Fixed) (who : ℕ) (r : Run) (places : List (ℕ × ℕ)) → Steady f r (given_all f who r places) (Each (Gives who) places)
 unfolding given_all
 gives_go f who r [] = none f r (Each (Gives who) []) refl
 gives_go f who r (x ∷ xs) =
@@ -140,7 +140,7 @@ send_then f who p r (Some owed) e =
     (λ es more a b. (es, more, refl, a, b)))
     (λ es n. (reply_of f who r (call.Pending p), es, refl, subst (λ (z : Option Lists). Owes f.rows who p z es) (sym e) n))
 
-send_goes : (f : Fixed) (who p : ℕ) (r : Run) → Steady f r (sent f who p r) (Sends f.rows who p)
+pub send_goes : (f : Fixed) (who p : ℕ) (r : Run) → Steady f r (sent f who p r) (Sends f.rows who p)
 unfolding sent
 send_goes f who p r = send_then f who p r (listed (reply_of f who r (call.Pending p))) refl
 
@@ -256,7 +256,7 @@ joins_follow f who r ps = let s = joins_go f who r ps in (s.es, s.goes, s.are)
 
 -- ---- settling
 
-sends_go : (f : Fixed) (who : ℕ) (r : Run) (ps : List ℕ) → Steady f r (sent_by_all f who r ps) (Each (Sends f.rows who) ps)
+pub sends_go : (f : Fixed) (who : ℕ) (r : Run) (ps : List ℕ) → Steady f r (sent_by_all f who r ps) (Each (Sends f.rows who) ps)
 unfolding sent_by_all
 sends_go f who r [] = none f r (Each (Sends f.rows who) []) refl
 sends_go f who r (p ∷ ps) =
@@ -286,12 +286,12 @@ work_then n f who r more (Some c) e =
     (both f t u (worked_off n f who u) (OneCall who (call.Finish c)) (WorksOff n who) (ThenWork n who (Some c)) (one f who t (call.Finish c)) (more u) (λ es later a b. (es, later, refl, a, b)))
     (λ es m. (reply_of f who r call.Take, es, refl, subst (λ (z : Option ℕ). ThenWork n who z es) (sym e) m))
 
-works_go : (n : ℕ) (f : Fixed) (who : ℕ) (r : Run) → Steady f r (worked_off n f who r) (WorksOff n who)
+pub works_go : (n : ℕ) (f : Fixed) (who : ℕ) (r : Run) → Steady f r (worked_off n f who r) (WorksOff n who)
 unfolding worked_off
 works_go zero f who r = one f who r call.Take
 works_go (suc n) f who r = work_then n f who r (works_go n f who) (job (reply_of f who r call.Take)) refl
 
-round_goes : (f : Fixed) (who : ℕ) (r : Run) → Steady f r (round f who r) (IsRound f.rows who (length f.plans) (members r.state.present))
+pub round_goes : (f : Fixed) (who : ℕ) (r : Run) → Steady f r (round f who r) (IsRound f.rows who (length f.plans) (members r.state.present))
 unfolding round
 round_goes f who r =
     let t = sent_by_all f who r (members r.state.present) in
@@ -345,13 +345,17 @@ starts_honest : (f : Fixed) → IsHonest f (start f)
 unfolding after replayed
 starts_honest f = record { legal = refl; state = refl }
 
+pub served_honest : (f : Fixed) (ps : List ℕ) (lanes : List (List Line)) → IsHonest f (before_settling f ps lanes)
+served_honest f ps lanes =
+    let r = start f in
+    let t = joined_all f 0 r ps in
+    let a = joins_follow f 0 r ps in
+    let b = all_lanes_follow f 0 t lanes in
+    honest_ones_go_on f t (served_all f 0 t lanes) b.0 b.1 (honest_ones_go_on f r t a.0 a.1 (starts_honest f))
+
 pub serial_is_honest : SerialIsHonest
 unfolding serial
 serial_is_honest f ps lanes =
-    let r = start f in
-    let t = joined_all f 0 r ps in
-    let u = served_all f 0 t lanes in
-    let a = joins_follow f 0 r ps in
-    let b = all_lanes_follow f 0 t lanes in
+    let u = before_settling f ps lanes in
     let c = settling_follows f 0 u in
-    honest_ones_go_on f u (settled f 0 u) c.0 c.1 (honest_ones_go_on f t u b.0 b.1 (honest_ones_go_on f r t a.0 a.1 (starts_honest f)))
+    honest_ones_go_on f u (settled f 0 u) c.0 c.1 (served_honest f ps lanes)

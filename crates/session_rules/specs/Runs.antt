@@ -1,9 +1,10 @@
 -- What those that act in a session bring about.
-use Rattle.std.specs.Prelude.{◌≡◌, ℕ, zero, suc, ◌<◌, true, false, ◌⊎◌, List, [], ◌∷◌, ◌++◌, length, Some, None}
+use Rattle.std.specs.Prelude.{◌≡◌, ℕ, zero, suc, ◌<◌, ◌≤◌, true, false, ◌⊎◌, List, [], ◌∷◌, ◌++◌, length, Some, None}
 use Rattle.std.specs.List.{slice_index_or, list_all, Contains}
-use Rattle.share_spec.specs.Sets.{members}
+use Rattle.share_spec.specs.Sets.{has, members}
 use Rattle.proto_names.specs.declared.signature.Signature.TheVariants.{Pk, Dec}
 use Rattle.proto_names.specs.declared.instance.Instance.{Instance}
+use Rattle.proto_names.specs.declared.instance.Stage.TheVariants.{Opened}
 use Rattle.circuit_form.specs.declared.node.Node.{Node}
 use Rattle.noise_ledger.specs.Bounds.{Numbers}
 use Rattle.session_rules.specs.declared.call.Call.{Call}
@@ -14,12 +15,12 @@ use Rattle.session_rules.specs.declared.line.Line.{Line}
 use Rattle.session_rules.specs.declared.fixed.Fixed.{Fixed}
 use Rattle.session_rules.specs.States.{State, plan, circuit, is_given, is_refused, is_admitted, has_done}
 use Rattle.session_rules.specs.Issues.{keys as needed_keys}
-use Rattle.session_rules.specs.Steps.{is_given_input, has_keys, step}
+use Rattle.session_rules.specs.Steps.{is_input, is_given_input, has_keys, step}
 use Rattle.session_rules.specs.Fixing.{fixed_of}
 use Rattle.session_rules.specs.Histories.{after, replayed, state_after, IsLegal}
-use Rattle.session_rules.specs.Lanes.{Run, job, called, did, served, served_all, joined_all, is_settled, settled, serial}
+use Rattle.session_rules.specs.Lanes.{Run, job, called, sent, did, served, served_all, joined_all, is_settled, settled, start, serial}
 use Rattle.session_rules.specs.Followed.{Calls, OneCall, Each, Sends, FollowsLine, Follows}
-use Rattle.session_rules.specs.Facts.{is_begun, Kept, answered}
+use Rattle.session_rules.specs.Facts.{is_begun, Kept, IsAtRest, answered}
 
 -- ---- runs that go on
 
@@ -90,6 +91,12 @@ pub record IsWhole (f : Fixed) : Type 0 where
   pub turns : (c g : ℕ) → c < length f.plans → is_admitted (plan f c) ≡ true → Contains (plan f c).turns g → Contains f.turns g
   pub turned : (g : ℕ) → Contains f.turns g → (c : ℕ) × (c < length f.plans) × (is_admitted (plan f c) ≡ true) × Contains (plan f c).turns g
 
+-- ---- what settling comes to
+
+-- of the instances up to a number no opened one lacks a party's share
+abbrev pub GaveAll : ℕ → ℕ → State → Type 0
+GaveAll p b s = (i : Instance) → Contains s.instances i → i.id ≤ b → i.stage ≡ Opened → has i.set.bits p ≡ true → has i.sent.bits p ≡ true
+
 -- ---- laws
 
 -- a call is made with its reply
@@ -135,3 +142,16 @@ HistoriesGround = (f : Fixed) (es : List Entry) → IsWhole f → Grounded f (st
 -- it holds of the fixed data that is made of circuits
 abbrev pub CircuitsAreWhole : Type 0
 CircuitsAreWhole = (p : Numbers) (circuits : List (List Node)) → IsWhole (fixed_of p circuits)
+
+-- who is present and sends gives its share of each instance that was opened
+abbrev pub SendingGives : Type 0
+SendingGives = (f : Fixed) (who p : ℕ) (r : Run) → Kept f r.state → has r.state.present p ≡ true → GaveAll p (length r.state.instances) (sent f who p r).state
+
+-- and, once there is a public key, each of its inputs
+abbrev pub SendingGivesInputs : Type 0
+SendingGivesInputs = (f : Fixed) (who p : ℕ) (r : Run) (c k : ℕ) → Kept f r.state → IsAtRest f r.state → Grounded f r.state → has r.state.present p ≡ true
+    → is_input f c k ≡ true → has_done Pk r.state.instances ≡ true → slice_index_or (plan f c).owners k 0 ≡ p → is_given (sent f who p r).state c k ≡ true
+
+-- the serial run before it is settled
+abbrev pub before_settling : Fixed → List ℕ → List (List Line) → Run
+before_settling f parties lanes = served_all f 0 (joined_all f 0 (start f) parties) lanes

@@ -1,6 +1,6 @@
 //! What follows from the rules, whatever is called: each function states a law, and does nothing.
 ghost use Rattle.session_rules.specs.Facts.{RefusalsChangeNothing, CallsKeep, HistoriesKeep, PartiesArePresent, CallsLeave, HistoriesLeave, KeysStay, FirstRoundsStay, TakenStays, IssueEnds, IssueIsItsMoves, MovesAreFew, CallsLeaveRest, HistoriesLeaveRest, SharesAreWanted, ShapesAreRefused, SharesAreCountedOnce, CompleteOnesLackNone, FewAreIssued, HistoriesIssueFew, LegalOnesGrow, NextState, BeginningsAreLegal, StatesLeadOn, LaterOnesFollow, TakenStaysOn};
-ghost use Rattle.session_rules.specs.Runs.{CallsGo, HonestOnesGoOn, LinesFollow, LanesFollow, AllLanesFollow, JoinsFollow, SettlingFollows, SerialIsHonest, SerialFollows, CallsGround, HistoriesGround, CircuitsAreWhole};
+ghost use Rattle.session_rules.specs.Runs.{CallsGo, HonestOnesGoOn, LinesFollow, LanesFollow, AllLanesFollow, JoinsFollow, SettlingFollows, SerialIsHonest, SerialFollows, CallsGround, HistoriesGround, CircuitsAreWhole, SendingGives, SendingGivesInputs};
 
 /// A reply that refuses goes with the state as it was.
 pub fn refusals()
@@ -82,4 +82,10 @@ pub fn grounds()
     ensures calls { CallsGround }
     ensures histories { HistoriesGround }
     ensures whole { CircuitsAreWhole }
+{}
+
+/// Who is present and sends gives each share that it owes, and each input once there is a public key.
+pub fn sending()
+    ensures shares { SendingGives }
+    ensures inputs { SendingGivesInputs }
 {}
