@@ -1,7 +1,7 @@
 -- What those that act in a session bring about.
-use Rattle.std.specs.Prelude.{◌≡◌, ℕ, zero, suc, ◌<◌, ◌≤◌, true, false, ◌⊎◌, List, [], ◌∷◌, ◌++◌, length, Some, None}
+use Rattle.std.specs.Prelude.{◌≡◌, ◌≢◌, ℕ, zero, suc, ◌<◌, ◌≤◌, true, false, ◌⊎◌, List, [], ◌∷◌, ◌++◌, length, Some, None}
 use Rattle.std.specs.List.{slice_index_or, list_all, Contains}
-use Rattle.share_spec.specs.Sets.{has, members}
+use Rattle.share_spec.specs.Sets.{has, members, count}
 use Rattle.proto_names.specs.declared.signature.Signature.TheVariants.{Pk, Dec}
 use Rattle.proto_names.specs.declared.instance.Instance.{Instance}
 use Rattle.proto_names.specs.declared.instance.Stage.TheVariants.{Opened}
@@ -13,9 +13,10 @@ use Rattle.session_rules.specs.declared.call.Entry.{Entry}
 use Rattle.session_rules.specs.declared.reply.Reply.{Reply}
 use Rattle.session_rules.specs.declared.line.Line.{Line}
 use Rattle.session_rules.specs.declared.fixed.Fixed.{Fixed}
+use Rattle.session_rules.specs.declared.state.CircuitState.TheVariants.{Taken}
 use Rattle.session_rules.specs.States.{State, plan, circuit, is_given, is_refused, is_admitted, has_done}
 use Rattle.session_rules.specs.Issues.{keys as needed_keys}
-use Rattle.session_rules.specs.Steps.{is_input, is_given_input, has_keys, step}
+use Rattle.session_rules.specs.Steps.{is_input, is_given_input, has_keys, next_ready, step}
 use Rattle.session_rules.specs.Fixing.{fixed_of}
 use Rattle.session_rules.specs.Histories.{after, replayed, state_after, IsLegal}
 use Rattle.session_rules.specs.Lanes.{Run, job, called, sent, did, served, served_all, joined_all, is_settled, settled, start, serial}
@@ -93,9 +94,19 @@ pub record IsWhole (f : Fixed) : Type 0 where
 
 -- ---- what settling comes to
 
+-- no instance is opened
+abbrev pub NoneOpened : State → Type 0
+NoneOpened s = (i : Instance) → Contains s.instances i → i.stage ≢ Opened
+
 -- of the instances up to a number no opened one lacks a party's share
 abbrev pub GaveAll : ℕ → ℕ → State → Type 0
 GaveAll p b s = (i : Instance) → Contains s.instances i → i.id ≤ b → i.stage ≡ Opened → has i.set.bits p ≡ true → has i.sent.bits p ≡ true
+
+-- no circuit is taken, and enough parties are present, among them the owner of each input that is wanted
+pub record CanSettle (f : Fixed) (s : State) : Type 0 where
+  pub untaken : (c who : ℕ) → circuit s.circuits c ≢ Taken who
+  pub enough : f.threshold ≤ count s.present
+  pub owners : (c k : ℕ) → is_input f c k ≡ true → (is_given s c k ≡ true) ⊎ (has s.present (slice_index_or (plan f c).owners k 0) ≡ true)
 
 -- ---- laws
 
@@ -152,6 +163,28 @@ abbrev pub SendingGivesInputs : Type 0
 SendingGivesInputs = (f : Fixed) (who p : ℕ) (r : Run) (c k : ℕ) → Kept f r.state → IsAtRest f r.state → Grounded f r.state → has r.state.present p ≡ true
     → is_input f c k ≡ true → has_done Pk r.state.instances ≡ true → slice_index_or (plan f c).owners k 0 ≡ p → is_given (sent f who p r).state c k ≡ true
 
+-- settling loses nobody
+abbrev pub SettlingLosesNobody : Type 0
+SettlingLosesNobody = (f : Fixed) (who : ℕ) (r : Run) → 1 ≤ f.threshold → IsHonest f r → (settled f who r).state.present ≡ r.state.present
+
+-- after settling no instance is opened and no circuit is ready
+abbrev pub SettlingEnds : Type 0
+SettlingEnds = (f : Fixed) (who : ℕ) (r : Run) → IsWhole f → 1 ≤ f.threshold → IsHonest f r
+    → NoneOpened (settled f who r).state × (next_ready f (settled f who r).state ≡ None)
+
+-- and where it can be, each admitted circuit is answered
+abbrev pub SettlingAnswers : Type 0
+SettlingAnswers = (f : Fixed) (who : ℕ) (r : Run) → IsWhole f → 1 ≤ f.threshold → IsHonest f r → CanSettle f r.state → is_settled (settled f who r).state ≡ true
+
 -- the serial run before it is settled
 abbrev pub before_settling : Fixed → List ℕ → List (List Line) → Run
 before_settling f parties lanes = served_all f 0 (joined_all f 0 (start f) parties) lanes
+
+-- so it is in the serial run, and where it can be after its lanes
+abbrev pub SerialEnds : Type 0
+SerialEnds = (f : Fixed) (parties : List ℕ) (lanes : List (List Line)) → IsWhole f → 1 ≤ f.threshold
+    → NoneOpened (serial f parties lanes).state × (next_ready f (serial f parties lanes).state ≡ None)
+
+abbrev pub SerialAnswers : Type 0
+SerialAnswers = (f : Fixed) (parties : List ℕ) (lanes : List (List Line)) → IsWhole f → 1 ≤ f.threshold → CanSettle f (before_settling f parties lanes).state
+    → is_settled (serial f parties lanes).state ≡ true

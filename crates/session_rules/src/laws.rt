@@ -1,6 +1,6 @@
 //! What follows from the rules, whatever is called: each function states a law, and does nothing.
 ghost use Rattle.session_rules.specs.Facts.{RefusalsChangeNothing, CallsKeep, HistoriesKeep, PartiesArePresent, CallsLeave, HistoriesLeave, KeysStay, FirstRoundsStay, TakenStays, IssueEnds, IssueIsItsMoves, MovesAreFew, CallsLeaveRest, HistoriesLeaveRest, SharesAreWanted, ShapesAreRefused, SharesAreCountedOnce, CompleteOnesLackNone, FewAreIssued, HistoriesIssueFew, LegalOnesGrow, NextState, BeginningsAreLegal, StatesLeadOn, LaterOnesFollow, TakenStaysOn};
-ghost use Rattle.session_rules.specs.Runs.{CallsGo, HonestOnesGoOn, LinesFollow, LanesFollow, AllLanesFollow, JoinsFollow, SettlingFollows, SerialIsHonest, SerialFollows, CallsGround, HistoriesGround, CircuitsAreWhole, SendingGives, SendingGivesInputs};
+ghost use Rattle.session_rules.specs.Runs.{CallsGo, HonestOnesGoOn, LinesFollow, LanesFollow, AllLanesFollow, JoinsFollow, SettlingFollows, SerialIsHonest, SerialFollows, CallsGround, HistoriesGround, CircuitsAreWhole, SendingGives, SendingGivesInputs, SettlingLosesNobody, SettlingEnds, SettlingAnswers, SerialEnds, SerialAnswers};
 
 /// A reply that refuses goes with the state as it was.
 pub fn refusals()
@@ -88,4 +88,15 @@ pub fn grounds()
 pub fn sending()
     ensures shares { SendingGives }
     ensures inputs { SendingGivesInputs }
+{}
+
+/// Settling comes to an end: from any state that calls lead to, no instance is opened then and no circuit
+/// is ready; and each admitted circuit is answered, where no circuit was taken, enough parties were
+/// present, and so was the owner of each input that wasn't given.
+pub fn settling()
+    ensures nobody_lost { SettlingLosesNobody }
+    ensures ends { SettlingEnds }
+    ensures answers { SettlingAnswers }
+    ensures serial_ends { SerialEnds }
+    ensures serial_answers { SerialAnswers }
 {}
