@@ -1,6 +1,6 @@
-ghost use Rattle.std.specs.Prelude.{◌≡◌, ℕ, ◌*◌, ◌/◌, ◌≤◌, IfOk, OnOk, OnErr};
+ghost use Rattle.std.specs.Prelude.{◌≡◌, ◌*◌, ◌/◌, IfOk, OnOk, OnErr};
 ghost use Rattle.ring_spec.specs.Ring.{IsPoly, ring_multiple};
-ghost use Rattle.bfv_spec.specs.Scheme.{cipher_sum, encryption, phase as phase_of};
+ghost use Rattle.bfv_spec.specs.Scheme.{encryption, phase as phase_of};
 ghost use Rattle.bfv_spec.specs.Drawn.{drawn_encryption};
 ghost use Rattle.bfv_core.specs.Fits.{KeyFits, CipherFits};
 ghost use Rattle.word_tape.specs.Standing.{moved};
@@ -12,7 +12,7 @@ use std::alloc::{AllocError, Global};
 use word_tape::Tape;
 
 /// D * m as a polynomial of the ring.
-fn scaled(alloc: Global, ring: &Ring, m: &Plain) -> Result<Poly, AllocError>
+pub(crate) fn scaled(alloc: Global, ring: &Ring, m: &Plain) -> Result<Poly, AllocError>
     requires { IsPoly ring.now.params.t ring.now.params.n m.now }
     ensures value { IfOk result (λ f. f ≡ ring_multiple ring.now.params.q ring.now.params.n (ring.now.params.q / ring.now.params.t) m.now) }
     ensures fits { IfOk result (λ f. IsPoly ring.now.params.q ring.now.params.n f) }
@@ -88,26 +88,6 @@ pub fn encrypt(
     let c = encrypt_with(alloc, ring, key, m, &u, &e0, &e1)?;
     *tape = ahead;
     Ok(c)
-}
-
-/// The sum of two ciphertexts, part by part.
-#[tactic(auto, unfolding(bfv_spec::specs::Scheme::cipher_sum))]
-pub fn add(
-    alloc: Global,
-    ring: &Ring,
-    c: &Ciphertext,
-    d: &Ciphertext,
-) -> Result<Ciphertext, AllocError>
-    requires left { CipherFits ring.now.params.q ring.now.params.n c.now }
-    requires right { CipherFits ring.now.params.q ring.now.params.n d.now }
-    ensures value { IfOk result (λ e. e ≡ cipher_sum ring.now.params.q ring.now.params.n c.now d.now) }
-    ensures fits { IfOk result (λ e. CipherFits ring.now.params.q ring.now.params.n e) }
-{
-    let mut c0 = copied(alloc, ring, &c.c0)?;
-    let mut c1 = copied(alloc, ring, &c.c1)?;
-    add_into(ring, &mut c0, &d.c0);
-    add_into(ring, &mut c1, &d.c1);
-    Ok(Ciphertext { c0, c1 })
 }
 
 /// The phase of a ciphertext under a secret: c0 + c1 * s.

@@ -1,4 +1,4 @@
-//! BFV ciphertexts: encryption under a public key, the sum, and the plaintext of a phase.
+//! BFV ciphertexts: encryption, the operations that need no key, and the plaintext of a phase.
 //!
 //! After Fan and Vercauteren 2012: plaintexts are scaled by D = floor(q/t), a phase c0 + c1 * s is
 //! rounded to the nearest multiple. Each call gives the value that `bfv_spec` defines, and what it
@@ -8,8 +8,13 @@
 #![tactic(auto)]
 
 mod cipher;
+mod operations;
 mod plain;
 
-pub use cipher::{add, copied, encrypt, phase};
+pub use cipher::{copied, encrypt, phase};
 pub use mod_ring::{Ciphertext, PublicKey};
+pub use operations::{add, mul_plain, neg, sub, trivial};
 pub use plain::round_phase;
+
+#[cfg(test)]
+mod tests;

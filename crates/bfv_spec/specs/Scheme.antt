@@ -1,5 +1,5 @@
 -- The scheme over R_q with n coefficients and plaintexts modulo t.
-use Rattle.std.specs.Prelude.{ℕ, ◌+◌, ◌-◌, ◌*◌, ◌/◌, ◌%◌, ◌≤◌, List, map}
+use Rattle.std.specs.Prelude.{ℕ, ◌+◌, ◌-◌, ◌*◌, ◌/◌, ◌%◌, ◌≤◌, List, map, replicate}
 use Rattle.ring_spec.specs.Ring.{ring_sum, ring_difference, ring_negative, ring_multiple, ring_product, size}
 use Rattle.ring_spec.specs.Pairs.{Cipher, Key}
 
@@ -26,6 +26,21 @@ encryption q n t key m u e0 e1 = record {
 -- the sum of two ciphertexts, part by part
 unfoldable pub cipher_sum : ℕ → ℕ → Cipher → Cipher → Cipher
 cipher_sum q n c d = record { c0 = ring_sum q n c.c0 d.c0; c1 = ring_sum q n c.c1 d.c1 }
+
+-- the difference of two, the first less the second, and the negative of one, part by part
+unfoldable pub cipher_difference : ℕ → ℕ → Cipher → Cipher → Cipher
+cipher_difference q n c d = record { c0 = ring_difference q n c.c0 d.c0; c1 = ring_difference q n c.c1 d.c1 }
+
+unfoldable pub cipher_negative : ℕ → ℕ → Cipher → Cipher
+cipher_negative q n c = record { c0 = ring_negative q n c.c0; c1 = ring_negative q n c.c1 }
+
+-- a ciphertext times a plaintext: both parts times m
+unfoldable pub cipher_multiple : ℕ → ℕ → Cipher → List ℕ → Cipher
+cipher_multiple q n c m = record { c0 = ring_product q n c.c0 m; c1 = ring_product q n c.c1 m }
+
+-- a plaintext as a ciphertext without noise: (D * m, 0)
+unfoldable pub trivial : ℕ → ℕ → ℕ → List ℕ → Cipher
+trivial q n t m = record { c0 = ring_multiple q n (delta q t) m; c1 = replicate n 0 }
 
 -- the phase of a ciphertext under the secret s: c0 + c1 * s
 unfoldable pub phase : ℕ → ℕ → List ℕ → Cipher → List ℕ
