@@ -1,0 +1,5 @@
+pub mod Reduced
+pub mod Multiples
+pub mod Nodes
+pub mod Walks
+pub mod Outputs

@@ -1,0 +1,42 @@
+-- What the output of a circuit carries.
+use Rattle.std.specs.Prelude.{◌≡◌, ℕ, ◌+◌, ◌*◌, ◌<◌, ◌≤◌, true, List, [], length, slice_index_or, All, None}
+use Rattle.ring_spec.specs.Ring.{IsPoly}
+use Rattle.ring_spec.specs.Pairs.{Cipher}
+use Rattle.bfv_spec.specs.Scheme.{Carries}
+use Rattle.param_set.specs.declared.params.Params.{Params}
+use Rattle.circuit_form.specs.declared.node.Node.{Node}
+use Rattle.circuit_form.specs.Circuits.{first_fault, owners}
+use Rattle.circuit_form.specs.Values.{plain_value}
+use Rattle.noise_ledger.specs.Bounds.{numbers_of, limit, input_bound}
+use Rattle.noise_ledger.specs.Ledger.{first_over}
+use Rattle.cipher_spec.specs.Ciphers.{is_switch_free, cipher_at, output_cipher}
+
+-- a ciphertext whose parts are polynomials of the ring
+pub record IsCipher (q n : ℕ) (c : Cipher) : Type 0 where
+  pub c0 : IsPoly q n c.c0
+  pub c1 : IsPoly q n c.c1
+
+-- ciphertexts of a circuit's inputs, each of which carries its value under the secret s within the bound of an
+-- input
+pub record AreInputs (p : Params) (s : List ℕ) (nodes : List Node) (values : List (List ℕ)) (inputs : List Cipher) : Type 0 where
+  pub ciphers : length inputs ≡ length (owners nodes)
+  pub polys : length values ≡ length (owners nodes)
+  pub fit : All (IsCipher p.q p.n) inputs
+  pub plain : All (IsPoly p.t p.n) values
+  pub carry : (k : ℕ) → k < length (owners nodes) → Carries p.q p.n p.t s (input_bound (numbers_of p)) (cipher_at inputs k) (slice_index_or values k [])
+
+-- a ciphertext carries a plaintext within a noise that leaves room for the flood of each party
+pub record Opens (p : Params) (s : List ℕ) (c : Cipher) (m : List ℕ) : Type 0 where
+  pub noise : ℕ
+  pub within : noise + p.threshold * p.flood ≤ limit (numbers_of p)
+  pub carries : Carries p.q p.n p.t s noise c m
+  pub plain : IsPoly p.t p.n m
+  pub fits : IsCipher p.q p.n c
+
+-- the output of an admitted circuit that needs no key switch carries its plain value
+abbrev pub OutputsCarry : Type 0
+OutputsCarry =
+    (p : Params) (s : List ℕ) (nodes : List Node) (values : List (List ℕ)) (inputs : List Cipher)
+    → first_fault p.n p.t p.parties nodes ≡ None → is_switch_free nodes ≡ true → first_over (numbers_of p) nodes ≡ None
+    → IsPoly p.q p.n s → AreInputs p s nodes values inputs
+    → Opens p s (output_cipher p.q p.n p.t inputs nodes) (plain_value p.n p.t values nodes)
