@@ -1,0 +1,3 @@
+pub mod Constants
+pub mod SwitchFree
+pub mod Walk

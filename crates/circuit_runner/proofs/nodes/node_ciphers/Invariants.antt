@@ -1,0 +1,17 @@
+-- The nodes passed have their ciphertexts, and what follows from these and the nodes that are left is the
+-- ciphertexts of all.
+use Rattle.std.proofs.Common.{◌≡◌, ◌+◌, ◌≤◌, [], length, drop}
+use Rattle.std.specs.Prelude.{All}
+use Rattle.bfv_core.specs.Fits.{CipherFits}
+use Rattle.circuit_form.specs.Circuits.{owners}
+use Rattle.cipher_spec.specs.Ciphers.{ciphers_from}
+use Rattle.circuit_runner.proofs.nodes.node_ciphers.Given as goal
+
+abbrev pub invariant-nodes : goal.invariant-nodes
+invariant-nodes l = record {
+  count : length l.done.items ≡ l.k;
+  passed : l.given ≤ l.k;
+  enough : l.given + length (owners (drop l.k l.circuit)) ≡ length l.inputs;
+  fit : All (CipherFits l.ring.params.q l.ring.params.n) l.done.items;
+  whole : ciphers_from l.ring.params.q l.ring.params.n l.ring.params.t l.inputs l.circuit l.done.items l.given (drop l.k l.circuit) ≡ ciphers_from l.ring.params.q l.ring.params.n l.ring.params.t l.inputs l.circuit [] 0 l.circuit;
+}
