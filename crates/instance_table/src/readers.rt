@@ -1,9 +1,10 @@
 ghost use Rattle.std.specs.Prelude.{◌≡◌, ◌≤◌, ◌-◌, ◌↔◌, ℕ, length, All, Some, IfOk, IfSome, IsSome, IsTrue, option_copied, option_map};
 ghost use Rattle.ring_spec.specs.Ring.{IsPoly};
 ghost use Rattle.proto_names.specs.Names.{is_void};
-ghost use Rattle.proto_names.specs.Instances.{instance, lacks, owed_shares};
+ghost use Rattle.proto_names.specs.Instances.{instance, lacks, owed_shares, after_share};
 ghost use Rattle.instance_table.specs.Tables.{role, role_told, row_count, row_counts, stands, told};
 
+use crate::steps::counted_at;
 use crate::{Brief, Table};
 use mod_ring::Polys;
 use param_set::Ids;
@@ -67,6 +68,24 @@ impl Table {
         ensures { IfOk result (λ copies. copies.items ≡ self.now.instances.items) }
     {
         Vec::from_slice(alloc, self.instances.as_slice())
+    }
+
+    /// A copy of all instances, as they are once the share of party p for the one with a number is counted.
+    #[tactic(auto, unfolding(proto_names::specs::Instances::after_share))]
+    pub fn instances_with_share(
+        &self,
+        alloc: Global,
+        id: u32,
+        p: u32,
+    ) -> Result<Vec<Instance>, AllocError>
+        requires first { 1 ≤ p }
+        requires last { p ≤ 32 }
+        ensures { IfOk result (λ copies. copies.items ≡ after_share id p self.now.instances.items) }
+    {
+        self.instances
+            .iter()
+            .map(|instance| counted_at(id, p, instance))
+            .collect(alloc)
     }
 
     /// The instance with a number, if that many were issued.

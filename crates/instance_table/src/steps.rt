@@ -1,6 +1,6 @@
 ghost use Rattle.std.specs.Prelude.{◌≡◌, ◌≤◌, ◌<◌, ◌^◌, length};
 ghost use Rattle.std.specs.List.{count_by};
-ghost use Rattle.proto_names.specs.Instances.{is_of, fresh as fresh_behind, missing as missing_after, with_share as after_share_of, lost_by as after_loss_of};
+ghost use Rattle.proto_names.specs.Instances.{is_of, fresh as fresh_behind, missing as missing_after, with_share as after_share_of, lost_by as after_loss_of, counted_at};
 ghost use Rattle.proto_names.specs.declared.instance.Stage.TheVariants.{Void};
 ghost use Rattle.instance_table.specs.Tables.{outcome};
 
@@ -67,6 +67,19 @@ pub(crate) fn with_share(p: u32, instance: &Instance) -> Instance
         sent: instance.sent.with(p),
         stage,
         ..*instance
+    }
+}
+
+/// The instance once the share of party p for the one with a number is counted.
+pub(crate) fn counted_at(id: u32, p: u32, instance: &Instance) -> Instance
+    requires first { 1 ≤ p }
+    requires last { p ≤ 32 }
+    ensures { result ≡ counted_at id p instance.now }
+{
+    if instance.id == id {
+        with_share(p, instance)
+    } else {
+        *instance
     }
 }
 

@@ -105,7 +105,7 @@ pub fn planned_moves(
     requires plans { length fixed.now.plans ≡ length circuits.now }
     requires few { length circuits.now ≤ 64 }
     requires few_keys { length needed.now ≤ 32 }
-    requires few_instances { length instances.items ≤ 2 ^ 29 }
+    requires few_instances { length instances.items + length needed.now + length circuits.now + 2 ≤ 2 ^ 30 }
     ensures { IfOk result (λ v. v.items ≡ moves_in (most_moves fixed.now) fixed.now present.now.bits instances.items circuits.now) }
 {
     let mut instances = instances;
