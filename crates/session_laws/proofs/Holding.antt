@@ -1,0 +1,195 @@
+-- What an honest store holds, instance by instance of a list with numbers, and that it does so once instances
+-- are issued.
+use Rattle.std.proofs.Common.{◌≡◌, ◌∙◌, sym, ap, subst, refl, ℕ, ◌+◌, ◌-◌, ◌<◌, Bool, true, false, List, [], ◌∷◌, ◌++◌, length, map, drop, get_or, Contains, Option, Some, arith}
+use Rattle.std.proofs.lemmas.Bool.{both_ways}
+use Rattle.std.proofs.lemmas.List.{get_or-map, get_or-drop, get_or_append_left, get_or-append_right, length-drop}
+use Rattle.param_set.specs.declared.params.Params.{Params}
+use Rattle.ring_spec.specs.Pairs.{Cipher, Key}
+use Rattle.noise_ledger.specs.Bounds.{Numbers}
+use Rattle.proto_names.specs.Names.{is_void}
+use Rattle.proto_names.specs.declared.signature.Signature.{Signature}
+use Rattle.proto_names.specs.declared.signature.Signature.TheVariants.{Pk, Rlk1, Rlk2, Rot, Dec}
+use Rattle.proto_names.specs.declared.instance.Instance.{Instance}
+use Rattle.session_rules.specs.declared.state.CircuitState.{CircuitState}
+use Rattle.session_rules.specs.declared.state.CircuitState.TheVariants.{Evaluated, Answered}
+use Rattle.session_rules.specs.States.{State, circuit, is_given}
+use Rattle.session_rules.specs.Issues.{issue}
+use Rattle.session_rules.specs.Facts.{Kept, IsLater, IsLive, Numbered, is_settled}
+use Rattle.session_rules.proofs.Changes.{issue_goes}
+use Rattle.session_rules.proofs.Marks.{instance_within, numbered_at}
+use Rattle.session_rules.proofs.Later.{later_reflexive, later_transitive}
+use Rattle.session_rules.proofs.Keeps.{Anybody, change_next}
+use Rattle.session_spec.specs.Settings.{Setting, rules, plain_at, IsSetting}
+use Rattle.session_spec.specs.Shares.{sum_rows}
+use Rattle.session_spec.specs.Outputs.{key_in, input_of, output_of, polys_of, sums_of}
+use Rattle.session_spec.specs.Stores.{Store, cipher_or, held_polys, held_sums, held_input, held_output, held_answer, polys_by, polys_told, zero_sums, grown}
+use Rattle.session_spec.specs.Honesty.{IsHonest}
+use Rattle.session_laws.proofs.Plans.{settled_begun, circuit_within, circuits_number, instance_at, instance_number}
+use Rattle.session_laws.proofs.Keys.{Keyed, key_stays, output_stays, polys_stay}
+use Rattle.session_laws.proofs.Issuing.{IsUnsent, old, gone, new, Roots, issue_roots}
+use Rattle.session_laws.proofs.Totals.{nobody_sums}
+
+-- ---- by instances in place of numbers
+
+abbrev pub Told : Setting → List (List ℕ) → Key → Store → List Instance → Type 0
+Told w seeds key h is = (i : Instance) → Contains is i → IsLive i → held_polys h i.id ≡ polys_of w seeds key i.signature
+
+abbrev pub Summed : Setting → List (List ℕ) → Key → Store → List Instance → Type 0
+Summed w seeds key h is = (i : Instance) → Contains is i → IsLive i → held_sums h i.id ≡ sums_of w seeds key i
+
+pub record Holds (w : Setting) (seeds : List (List ℕ)) (s : State) (h : Store) : Type 0 where
+  pub told : Told w seeds (key_in w seeds s.instances) h s.instances
+  pub sums : Summed w seeds (key_in w seeds s.instances) h s.instances
+  pub inputs : (c k : ℕ) → is_given s c k ≡ true → held_input h c k ≡ Some (input_of w seeds (key_in w seeds s.instances) c k)
+  pub outputs : (c : ℕ) → c < length w.offers → is_settled (circuit s.circuits c) ≡ true → held_output h c ≡ Some (output_of w seeds (key_in w seeds s.instances) c)
+  pub answers : (c : ℕ) → c < length w.offers → circuit s.circuits c ≡ Answered → held_answer h c ≡ Some (plain_at w c)
+
+pub holds_from : (w : Setting) (seeds : List (List ℕ)) (s : State) (h : Store) → Numbered s.instances → IsHonest w seeds s h → Holds w seeds s h
+holds_from w seeds s h n y = record {
+  told = λ i m alive. y.told i.id i (instance_at s.instances i n m) alive;
+  sums = λ i m alive. y.sums i.id i (instance_at s.instances i n m) alive;
+  inputs = y.inputs;
+  outputs = y.outputs;
+  answers = y.answers;
+}
+
+pub honest_from : (w : Setting) (seeds : List (List ℕ)) (s : State) (h : Store) → Numbered s.instances → Holds w seeds s h → IsHonest w seeds s h
+honest_from w seeds s h n y = record {
+  told = λ id i found alive.
+      subst (λ (z : ℕ). held_polys h z ≡ polys_of w seeds (key_in w seeds s.instances) i.signature) (instance_number s.instances id i n found) (y.told i (instance_within s.instances id i found) alive);
+  sums = λ id i found alive.
+      subst (λ (z : ℕ). held_sums h z ≡ sums_of w seeds (key_in w seeds s.instances) i) (instance_number s.instances id i n found) (y.sums i (instance_within s.instances id i found) alive);
+  inputs = y.inputs;
+  outputs = y.outputs;
+  answers = y.answers;
+}
+
+-- ---- the sums of an instance
+
+pub setting_modulus : (p : Params) (w : Setting) → IsSetting p w → 0 < w.numbers.q
+setting_modulus p w y =
+    let same : w.numbers.q ≡ p.q = ap (λ (z : Numbers). z.q) y.numbers in
+    let large = p.modulus in
+    let least = large.0 in
+    omega arith
+
+pub sums_stay : (w : Setting) (seeds : List (List ℕ)) (key other : Key) (i : Instance) → polys_of w seeds key i.signature ≡ polys_of w seeds other i.signature → sums_of w seeds key i ≡ sums_of w seeds other i
+unfolding sums_of
+sums_stay w seeds key other i e = ap (λ (z : List (List ℕ)). sum_rows w seeds i.signature i.id i.set.bits z i.sent.bits) e
+
+fresh_sums : (w : Setting) (seeds : List (List ℕ)) (key : Key) (i : Instance) → 0 < w.numbers.q → i.sent.bits ≡ 0 → zero_sums w i ≡ sums_of w seeds key i
+unfolding sums_of
+fresh_sums w seeds key i h e =
+    nobody_sums w seeds i.signature i.id i.set.bits (polys_of w seeds key i.signature) h
+    ∙ ap (λ (z : ℕ). sum_rows w seeds i.signature i.id i.set.bits (polys_of w seeds key i.signature) z) (sym e)
+
+-- ---- lists that grow with the instances
+
+below : {X : Type 0} (xs ys : List X) (i : Instance) (is : List Instance) (d : X) → Numbered is → Contains is i → length xs ≡ length is → get_or (xs ++ ys) (i.id - 1) d ≡ get_or xs (i.id - 1) d
+below xs ys i is d n m e =
+    let at = numbered_at is i n m in
+    let l = m.1 in
+    get_or_append_left xs ys d (i.id - 1) (omega arith)
+
+above : {X : Type 0} (xs : List X) (g : Instance → X) (i : Instance) (is : List Instance) (d : X) → Numbered is → Contains is i → length xs < i.id → get_or (xs ++ map g (drop (length xs) is)) (i.id - 1) d ≡ g i
+above xs g i is d n m l =
+    let many = length xs in
+    let at = numbered_at is i n m in
+    let inside = m.1 in
+    let rest = drop many is in
+    let within : i.id - 1 - many < length rest = omega (arith, length-drop many is) in
+    let place : many + (i.id - 1 - many) ≡ m.0 = omega arith in
+    get_or-append_right xs (map g rest) many (i.id - 1) d refl (omega arith)
+    ∙ get_or-map g rest (i.id - 1 - many) i d within
+    ∙ ap g (get_or-drop many is (i.id - 1 - many) i ∙ ap (λ (z : ℕ). get_or is z i) place ∙ m.2)
+
+module _ (p : Params) (w : Setting) (seeds : List (List ℕ)) (s t : State) (h : Store) (setting : IsSetting p w) (kept : Kept (rules w) s) (y : Keyed w s)
+    (told : length h.told ≡ length s.instances) (sums : length h.sums ≡ length s.instances)
+    (then_ : Kept (rules w) t) (later : IsLater s t) (roots : Roots s.instances t.instances) (given : t.given ≡ s.given) (circuits : t.circuits ≡ s.circuits) (holds : Holds w seeds s h) where
+  abbrev before : Key
+  before = key_in w seeds s.instances
+
+  abbrev now : Key
+  now = key_in w seeds t.instances
+
+  abbrev larger : Store
+  larger = grown w t.instances h
+
+  -- what is told of a new one comes from the output, which is there
+  new_told : (i : Instance) → Contains t.instances i → IsUnsent (length s.instances) i → (σ : Signature) → i.signature ≡ σ → polys_by h σ ≡ polys_of w seeds now σ
+  unfolding polys_by polys_of
+  new_told i m u Pk e = refl
+  new_told i m u Rlk1 e = refl
+  new_told i m u Rlk2 e = refl
+  new_told i m u (Rot g) e = refl
+  new_told i m u (Dec c) e =
+      let evaluated : circuit t.circuits c ≡ Evaluated = (then_.decrypts i m).opened c e u.opened in
+      let was : circuit s.circuits c ≡ Evaluated = subst (λ (z : List CircuitState). circuit z c ≡ Evaluated) circuits evaluated in
+      let within : c < length w.offers = omega (arith, circuit_within s.circuits c Evaluated was (λ e. cc), circuits_number w s kept) in
+      let there : held_output h c ≡ Some (output_of w seeds before c) = holds.outputs c within (rw was refl) in
+      let same : output_of w seeds before c ≡ output_of w seeds now c = output_stays w seeds s t c y then_ later (rw was refl) in
+      ap (λ (z : Option Cipher). (cipher_or z).c1 ∷ []) there ∙ ap (λ (z : Cipher). z.c1 ∷ []) same
+
+  grown_told : Told w seeds now larger t.instances
+  unfolding grown
+  grown_told i m alive = elim (roots i m) [
+    | gone void ↦ absurd (both_ways (is_void i.stage) alive void)
+    | old there ↦
+        below h.told (map (polys_told h) (drop (length h.told) t.instances)) i s.instances [] kept.numbered there told
+        ∙ holds.told i there alive ∙ polys_stay w seeds s t i kept y then_ later there alive
+    | new u ↦
+        let l = u.id in
+        above h.told (polys_told h) i t.instances [] then_.numbered m (omega arith) ∙ new_told i m u i.signature refl
+  ]
+
+  grown_sums : Summed w seeds now larger t.instances
+  unfolding grown
+  grown_sums i m alive = elim (roots i m) [
+    | gone void ↦ absurd (both_ways (is_void i.stage) alive void)
+    | old there ↦
+        below h.sums (map (zero_sums w) (drop (length h.sums) t.instances)) i s.instances [] kept.numbered there sums
+        ∙ holds.sums i there alive ∙ sums_stay w seeds before now i (polys_stay w seeds s t i kept y then_ later there alive)
+    | new u ↦
+        let l = u.id in
+        above h.sums (zero_sums w) i t.instances [] then_.numbered m (omega arith) ∙ fresh_sums w seeds now i (setting_modulus p w setting) u.sent
+  ]
+
+  -- nothing else changes
+  pub grown_holds : Holds w seeds t larger
+  unfolding grown
+  grown_holds = record {
+    told = grown_told;
+    sums = grown_sums;
+    inputs = λ c k e.
+        let was : is_given s c k ≡ true = subst (λ (z : List (List Bool)). get_or (get_or z c []) k false ≡ true) given e in
+        holds.inputs c k was ∙ ap (λ (z : Key). Some (input_of w seeds z c k)) (key_stays w seeds s t then_ later (y.given c k was));
+    outputs = λ c l e.
+        let was : is_settled (circuit s.circuits c) ≡ true = subst (λ (z : List CircuitState). is_settled (circuit z c) ≡ true) circuits e in
+        holds.outputs c l was ∙ ap Some (output_stays w seeds s t c y then_ later (settled_begun (circuit s.circuits c) was));
+    answers = λ c l e. holds.answers c l (subst (λ (z : List CircuitState). circuit z c ≡ Answered) circuits e);
+  }
+
+-- ---- so it is once instances are issued
+
+issue_given : (w : Setting) (s : State) → (issue (rules w) s).given ≡ s.given
+unfolding issue
+issue_given w s = refl
+
+issue_circuits : (w : Setting) (s : State) → (issue (rules w) s).circuits ≡ s.circuits
+unfolding issue
+issue_circuits w s = refl
+
+pub issue_next : (w : Setting) (s : State) → Kept (rules w) s → Kept (rules w) (issue (rules w) s) × IsLater s (issue (rules w) s)
+issue_next w s k = issue_goes (rules w) Anybody 0 (Kept (rules w)) IsLater later_reflexive later_transitive (change_next 0 (rules w)) s k
+
+pub issue_holds : (p : Params) (w : Setting) (seeds : List (List ℕ)) (s : State) (h : Store) → IsSetting p w → Kept (rules w) s → Keyed w s
+    → length h.told ≡ length s.instances → length h.sums ≡ length s.instances → Holds w seeds s h → Holds w seeds (issue (rules w) s) (grown w (issue (rules w) s).instances h)
+issue_holds p w seeds s h setting k y told sums holds =
+    let t = issue (rules w) s in
+    let goes = issue_next w s k in
+    grown_holds p w seeds s t h setting k y told sums goes.0 goes.1 (issue_roots (rules w) s) (issue_given w s) (issue_circuits w s) holds
+
+-- and where none is
+pub same_holds : (p : Params) (w : Setting) (seeds : List (List ℕ)) (s : State) (h : Store) → IsSetting p w → Kept (rules w) s → Keyed w s
+    → length h.told ≡ length s.instances → length h.sums ≡ length s.instances → Holds w seeds s h → Holds w seeds s (grown w s.instances h)
+same_holds p w seeds s h setting k y told sums holds = grown_holds p w seeds s s h setting k y told sums k (later_reflexive s) (λ i m. old m) refl refl holds

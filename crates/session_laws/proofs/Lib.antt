@@ -1,0 +1,15 @@
+pub mod Plans
+pub mod Keys
+pub mod Issuing
+pub mod Totals
+pub mod Holding
+pub mod Cells
+pub mod Joins
+pub mod Inputs
+pub mod HeldKeys
+pub mod Circuits
+pub mod Answers
+pub mod Counted
+pub mod Answered
+pub mod Deliveries
+pub mod Beginnings

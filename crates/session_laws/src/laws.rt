@@ -1,0 +1,31 @@
+//! What holds of honest stores, call by call: each function states a law, and does nothing.
+ghost use Rattle.session_spec.specs.Laws.{AnswersArePlain, OutputsStay};
+ghost use Rattle.session_spec.specs.Laws.{OpeningIsHonest, JoinsKeepHonest, SharesKeepHonest, InputsKeepHonest, TakesKeepHonest, OutputsKeepHonest, HeldKeysAreKeys, ReadyOnesHaveInputs};
+ghost use Rattle.session_laws.specs.Beginnings.{OpeningStands};
+
+/// The store is honest at first, and what the other laws ask for is met.
+pub fn beginnings()
+    ensures honest { OpeningIsHonest }
+    ensures stands { OpeningStands }
+{}
+
+/// The output of a circuit that is begun is the same in every later state.
+pub fn constancy()
+    ensures outputs { OutputsStay }
+{}
+
+/// A party that joins, a share, an input and an output as honest parties bring them, and a circuit that is
+/// taken, keep the store honest. For shares this rests on the law that complete decryptions give plain values.
+pub fn calls()
+    ensures joins { JoinsKeepHonest }
+    ensures shares { AnswersArePlain → SharesKeepHonest }
+    ensures inputs { InputsKeepHonest }
+    ensures takes { TakesKeepHonest }
+    ensures outputs { OutputsKeepHonest }
+{}
+
+/// The key that is handed out is the public key, and a circuit that is ready has its inputs.
+pub fn holdings()
+    ensures keys { HeldKeysAreKeys }
+    ensures inputs { ReadyOnesHaveInputs }
+{}

@@ -1,0 +1,42 @@
+-- Stores that go with a state, stores whose polynomials are those of honest parties, and what calls have to
+-- bring so that they stay so.
+use Rattle.std.specs.Prelude.{◌≡◌, ℕ, ◌<◌, true, List, length, Some}
+use Rattle.ring_spec.specs.Pairs.{Cipher}
+use Rattle.proto_names.specs.Names.{rows_of}
+use Rattle.proto_names.specs.Instances.{instance, lacks}
+use Rattle.proto_names.specs.declared.instance.Instance.{Instance}
+use Rattle.session_rules.specs.declared.state.CircuitState.TheVariants.{Answered}
+use Rattle.session_rules.specs.declared.reply.Reply.TheVariants as reply
+use Rattle.session_rules.specs.States.{State, circuit, is_given}
+use Rattle.session_rules.specs.Steps.{input, finish}
+use Rattle.session_rules.specs.Facts.{IsLive, is_settled}
+use Rattle.session_spec.specs.Settings.{Setting, rules, gadget_rows, plain_at}
+use Rattle.session_spec.specs.Outputs.{key_in, input_of, output_of, polys_of, share_of, sums_of}
+use Rattle.session_spec.specs.Stores.{Store, held_polys, held_sums, held_input, held_output, held_answer}
+
+-- in a state the store is that of honest parties: of each instance that isn't void the polynomials that are told
+-- and the sums; each input that is given; each output; each answer, which is the plain value
+pub record IsHonest (w : Setting) (seeds : List (List ℕ)) (s : State) (h : Store) : Type 0 where
+  pub told : (id : ℕ) (i : Instance) → instance s.instances id ≡ Some i → IsLive i → held_polys h id ≡ polys_of w seeds (key_in w seeds s.instances) i.signature
+  pub sums : (id : ℕ) (i : Instance) → instance s.instances id ≡ Some i → IsLive i → held_sums h id ≡ sums_of w seeds (key_in w seeds s.instances) i
+  pub inputs : (c k : ℕ) → is_given s c k ≡ true → held_input h c k ≡ Some (input_of w seeds (key_in w seeds s.instances) c k)
+  pub outputs : (c : ℕ) → c < length w.offers → is_settled (circuit s.circuits c) ≡ true → held_output h c ≡ Some (output_of w seeds (key_in w seeds s.instances) c)
+  pub answers : (c : ℕ) → c < length w.offers → circuit s.circuits c ≡ Answered → held_answer h c ≡ Some (plain_at w c)
+
+-- ---- what calls bring
+
+-- a share that is awaited and has as many rows as it has to have is the honest one
+abbrev pub BringsShare : Setting → List (List ℕ) → State → ℕ → ℕ → List (List ℕ) → Type 0
+BringsShare w seeds s id p rows =
+    (i : Instance) → instance s.instances id ≡ Some i → lacks p i ≡ true → length rows ≡ rows_of i.signature (gadget_rows w)
+    → rows ≡ share_of w seeds (key_in w seeds s.instances) i p
+
+-- an input that is then given is the encryption of its value by its owner's stream
+abbrev pub BringsInput : Setting → List (List ℕ) → State → ℕ → ℕ → Cipher → Type 0
+BringsInput w seeds s c k ct =
+    (input (rules w) s c k).0 ≡ reply.Given → ct ≡ input_of w seeds (key_in w seeds s.instances) c k
+
+-- an output that is taken over is the circuit's
+abbrev pub BringsOutput : Setting → List (List ℕ) → State → ℕ → ℕ → Cipher → Type 0
+BringsOutput w seeds s who c ct =
+    (finish (rules w) s who c).0 ≡ reply.Finished → ct ≡ output_of w seeds (key_in w seeds s.instances) c

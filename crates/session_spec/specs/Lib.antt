@@ -1,0 +1,6 @@
+pub mod Settings
+pub mod Shares
+pub mod Outputs
+pub mod Stores
+pub mod Honesty
+pub mod Laws
