@@ -1,0 +1,112 @@
+-- The inputs of a session's circuits carry their values, and an admitted circuit has no bound above the limit.
+use Rattle.std.proofs.Common.{◌≡◌, ℕ, ◌+◌, ◌*◌, ◌<◌, true, true≢false, not, List, [], map, length, slice_index_or, get_or, refl, sym, ap, subst, ◌∙◌, inl, inr, arith}
+use Rattle.std.specs.Prelude.{All, Option, Some, None, unwrap_or}
+use Rattle.std.specs.List.{range_with_len}
+use Rattle.std.proofs.lemmas.List.{get_or-map, length-map}
+use Rattle.std.proofs.lemmas.List.Elements.{All-map}
+use Rattle.std.proofs.lemmas.List.FromFn.{length-map-range_with_len, get_or-map-range_with_len}
+use Rattle.param_set.specs.declared.params.Params.{Params}
+use Rattle.ring_spec.specs.Ring.{IsPoly, ring_sum, ring_product, ring_multiple}
+use Rattle.ring_spec.specs.Pairs.{Cipher, Key}
+use Rattle.ring_laws.proofs.Residues.{sum_poly}
+use Rattle.draw_spec.specs.Streams.{input_stream}
+use Rattle.bfv_spec.specs.Scheme.{delta, encryption, Carries, IsPublicKey}
+use Rattle.bfv_spec.specs.Drawn.{ternary_poly, small_poly, drawn_encryption}
+use Rattle.bfv_laws.proofs.Noise.{drawn_carries}
+use Rattle.share_spec.specs.Sets.{count}
+use Rattle.share_spec.specs.Dealing.{secret}
+use Rattle.share_laws.proofs.Shares.{secret_is, secret_small}
+use Rattle.circuit_form.specs.declared.node.Node.{Node}
+use Rattle.noise_ledger.specs.declared.over.Place.{Place}
+use Rattle.noise_ledger.specs.Bounds.{Numbers, numbers_of, input_bound}
+use Rattle.noise_ledger.specs.Ledger.{first_over}
+use Rattle.cipher_spec.specs.Ciphers.{no_cipher}
+use Rattle.circuit_laws.specs.Carrying.{IsCipher, AreInputs}
+use Rattle.session_rules.specs.declared.fixed.Plan.{Plan}
+use Rattle.session_rules.specs.States.{is_refused, is_admitted, plan, no_plan}
+use Rattle.session_rules.specs.Fixing.{begins_as, plan_of, fixed_from}
+use Rattle.session_spec.specs.Settings.{Offer, rules, nodes_of, nodes_at, no_offer, values_at, value_at, owner_at, seed_at, input_count, Tells}
+use Rattle.session_spec.specs.Shares.{key_of}
+use Rattle.session_spec.specs.Outputs.{input_of, inputs_of}
+use Rattle.session_spec.specs.Laws.{Serves}
+use Rattle.answer_laws.proofs.Acting.{setting_of}
+use Rattle.answer_laws.proofs.Keys.{key_is}
+
+-- ---- admitted circuits
+
+-- a circuit that doesn't begin refused has no place above the limit
+not_over : (p : Numbers) (nodes : List Node) (over : Option Place) → not (is_refused (begins_as p nodes over)) ≡ true → over ≡ None
+unfolding begins_as
+not_over p nodes None e = refl
+not_over p nodes (Some place) e = absurd (true≢false (sym e))
+
+admitted_plan : (p : Numbers) (nodes : List Node) → is_admitted (plan_of p nodes) ≡ true → first_over p nodes ≡ None
+unfolding plan_of
+admitted_plan p nodes e = not_over p nodes (first_over p nodes) e
+
+-- circuit c of the rules is that of the setting
+plan_at : (p : Params) (public : List ℕ) (offers : List Offer) (c : ℕ) → c < length offers →
+    plan (rules (setting_of p public offers)) c ≡ plan_of (numbers_of p) (nodes_at (setting_of p public offers) c)
+unfolding rules fixed_from
+plan_at p public offers c l =
+    get_or-map (plan_of (numbers_of p)) (map nodes_of offers) c [] no_plan (omega (arith, length-map offers nodes_of))
+    ∙ ap (plan_of (numbers_of p)) (get_or-map nodes_of offers c no_offer [] l)
+
+pub admitted : (p : Params) (public : List ℕ) (offers : List Offer) (c : ℕ) → c < length offers →
+    is_admitted (plan (rules (setting_of p public offers)) c) ≡ true → first_over (numbers_of p) (nodes_at (setting_of p public offers) c) ≡ None
+admitted p public offers c l e =
+    let P : Plan → Type 0 = λ z. is_admitted z ≡ true in
+    admitted_plan (numbers_of p) (nodes_at (setting_of p public offers) c) (subst P (plan_at p public offers c l) e)
+
+-- ---- inputs
+
+-- an encryption's parts are polynomials of the ring, under whatever key
+drawn_fits : (q n t b : ℕ) (key : Key) (m seed : List ℕ) (stream k : ℕ) → 0 < q → IsCipher q n (drawn_encryption q n t b key m seed stream k)
+unfolding drawn_encryption encryption
+drawn_fits q n t b key m seed stream k h =
+    let u = ternary_poly q n seed stream k in
+    record {
+      c0 = sum_poly q n (ring_sum q n (ring_product q n u key.p0) (small_poly q n b seed stream (k + n))) (ring_multiple q n (delta q t) m) h;
+      c1 = sum_poly q n (ring_product q n u key.p1) (small_poly q n b seed stream (k + 2 * n)) h;
+    }
+
+-- input k under a key that belongs to the secret
+input_carries : (p : Params) (public : List ℕ) (offers : List Offer) (seeds : List (List ℕ)) (c k id set : ℕ) (key : Key) → length seeds ≡ p.parties →
+    count set ≡ p.threshold → key ≡ key_of (setting_of p public offers) seeds id set →
+    Carries p.q p.n p.t (secret p.q p.n seeds) (input_bound (numbers_of p)) (input_of (setting_of p public offers) seeds key c k) (value_at (setting_of p public offers) c k)
+unfolding input_of input_bound
+input_carries p public offers seeds c k id set key all many e =
+    let w = setting_of p public offers in
+    drawn_carries p.q p.n p.t p.threshold p.err p.parties key (value_at w c k) (secret p.q p.n seeds) (seed_at seeds (owner_at w c k)) (input_stream c k) 0
+    (omega arith) (secret_is p.q p.n seeds (omega arith))
+    (subst (λ (z : Key). IsPublicKey p.q p.n (secret p.q p.n seeds) (p.threshold * p.err) z) (sym e) (key_is p public offers seeds id set many))
+    (omega (arith, secret_small p.q p.n seeds (omega arith)))
+
+-- so does each where the key serves the circuit: one of no input has none
+served : (p : Params) (public : List ℕ) (offers : List Offer) (seeds : List (List ℕ)) (c k : ℕ) (key : Key) → length seeds ≡ p.parties →
+    Serves (setting_of p public offers) seeds c key → k < input_count (setting_of p public offers) c →
+    Carries p.q p.n p.t (secret p.q p.n seeds) (input_bound (numbers_of p)) (input_of (setting_of p public offers) seeds key c k) (value_at (setting_of p public offers) c k)
+served p public offers seeds c k key all (inl none) l = absurd (omega arith)
+served p public offers seeds c k key all (inr (id, set, many, e)) l = input_carries p public offers seeds c k id set key all many e
+
+pub are_inputs : (p : Params) (public : List ℕ) (offers : List Offer) (seeds : List (List ℕ)) (c : ℕ) (key : Key) → length seeds ≡ p.parties → c < length offers →
+    Tells p (slice_index_or offers c no_offer) → Serves (setting_of p public offers) seeds c key →
+    AreInputs p (secret p.q p.n seeds) (nodes_at (setting_of p public offers) c) (values_at (setting_of p public offers) c) (inputs_of (setting_of p public offers) seeds key c)
+unfolding input_of
+are_inputs p public offers seeds c key all l tells serves =
+    let w = setting_of p public offers in
+    let s = secret p.q p.n seeds in
+    let many = input_count w c in
+    let told : values_at w c ≡ tells.values = ap (λ (o : Option (List (List ℕ))). unwrap_or o []) tells.told in
+    record {
+      ciphers = length-map-range_with_len (input_of w seeds key c) 0 many;
+      polys = ap length told ∙ tells.number;
+      fit = All-map (IsCipher p.q p.n) (input_of w seeds key c) (range_with_len 0 many)
+          (λ i d r. let k = get_or (range_with_len 0 many) i d in
+          drawn_fits p.q p.n p.t p.err key (value_at w c k) (seed_at seeds (owner_at w c k)) (input_stream c k) 0 (omega arith));
+      plain = subst (All (IsPoly p.t p.n)) (sym told) tells.plain;
+      carry = λ k r.
+          subst (λ (z : Cipher). Carries p.q p.n p.t s (input_bound (numbers_of p)) z (value_at w c k))
+          (sym (get_or-map-range_with_len (input_of w seeds key c) 0 many k k no_cipher r (omega arith)))
+          (served p public offers seeds c k key all serves r);
+    }

@@ -1,0 +1,5 @@
+pub mod Acting
+pub mod Keys
+pub mod Inputs
+pub mod Decryptions
+pub mod Answers
