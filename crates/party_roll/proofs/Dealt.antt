@@ -1,14 +1,11 @@
 -- What the parties of a roll deal to a point, one party after the other.
-use Rattle.std.proofs.Common.{◌≡◌, ℕ, ◌+◌, ◌<◌, List, [], ◌∷◌, ◌++◌, map, refl, ap, sym, ◌∙◌, arith, subst}
-use Rattle.std.specs.Prelude.{All}
+use Rattle.std.proofs.Common.{◌≡◌, ℕ, ◌+◌, List, [], ◌∷◌, ◌++◌, map, refl, ap, sym, arith}
 use Rattle.std.specs.List.{range_with_len}
 use Rattle.std.proofs.lemmas.List.FromFn.{map-range_with_len_more}
-use Rattle.std.proofs.lemmas.List.Elements.{All-push, All-nil}
-use Rattle.ring_spec.specs.Ring.{IsPoly}
 use Rattle.ring_laws.specs.Aggregate.{ring_total}
 use Rattle.draw_spec.specs.Streams.{party_seed}
 use Rattle.share_spec.specs.Dealing.{dealt, share}
-use Rattle.party_roll.specs.Seeds.{seeds_of}
+use Rattle.party_roll.specs.Seeds.{seeds_told, seeds_of}
 
 -- what party i deals to point p
 pub dealt_by : ℕ → ℕ → ℕ → ℕ → List ℕ → ℕ → List ℕ
@@ -34,6 +31,6 @@ map-twice f g (x ∷ xs) = ap (λ ys. f (g x) ∷ ys) (map-twice f g xs)
 
 -- all that is dealt to a point sums to the share there
 pub so_far-end : (q n t p : ℕ) (master : List ℕ) (k parties : ℕ) → k ≡ parties → ring_total q n (dealt_so_far q n t p master k) ≡ share q n t (seeds_of master parties) p
-unfolding dealt_so_far dealt_by share seeds_of
+unfolding dealt_so_far dealt_by share seeds_of seeds_told
 so_far-end q n t p master k parties e =
     rw e (ap (ring_total q n) (sym (map-twice (dealt q n t p) (party_seed master) (range_with_len 1 parties))))

@@ -1,1 +1,4 @@
 pub mod Dealt
+pub mod Told
+pub mod Honest
+pub mod Placing

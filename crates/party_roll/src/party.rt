@@ -1,116 +1,75 @@
-ghost use Rattle.std.specs.Prelude.{◌≡◌, ℕ, ◌≤◌, [], ◌∷◌, All, IfOk};
-ghost use Rattle.ring_spec.specs.Ring.{IsPoly, ring_multiple};
-ghost use Rattle.draw_spec.specs.Streams.{party_seed};
-ghost use Rattle.bfv_spec.specs.Shares.{honest_pk};
-ghost use Rattle.dec_spec.specs.Decrypting.{honest_dec};
-ghost use Rattle.share_spec.specs.Lagrange.{lagrange};
-ghost use Rattle.share_spec.specs.Dealing.{dealt, share as share_at};
-ghost use Rattle.party_roll.specs.Seeds.{seeds_of};
+//! What a party of a session does.
+ghost use Rattle.std.specs.Prelude.{◌≡◌, ℕ, ◌<◌, List, Bool, true, length, All, Some, IsSome, IfOk};
+ghost use Rattle.ring_spec.specs.Ring.{IsPoly};
+ghost use Rattle.draw_spec.specs.Streams.{input_stream};
+ghost use Rattle.bfv_spec.specs.Drawn.{drawn_encryption};
+ghost use Rattle.param_set.specs.Numbers.{digit_rows};
+ghost use Rattle.param_set.specs.declared.params.Params.{Params};
+ghost use Rattle.noise_ledger.specs.Bounds.{numbers_of};
+ghost use Rattle.bfv_core.specs.Fits.{KeyFits, CipherFits};
+ghost use Rattle.proto_names.specs.Names.{rows_of};
+ghost use Rattle.session_spec.specs.Settings.{Setting, seed_at};
+ghost use Rattle.session_spec.specs.Shares.{share_rows};
+ghost use Rattle.party_roll.specs.declared.placed.Placed.{Placed};
+ghost use Rattle.party_roll.specs.Briefs.{IsBrief};
+ghost use Rattle.party_roll.specs.Values.{value_in};
 
-use crate::seeds::SeedRoll;
-use decrypt_protocol::dec_share;
-use keygen_protocols::pk_share;
-use mod_ring::{Poly, Polys, Ring};
-use proto_names::PartySet;
-use shamir_ring::{Dealing, additive, combine};
+use instance_table::{Brief, Share};
+use mod_ring::{Ciphertext, PublicKey, Ring};
 use std::alloc::{AllocError, Global};
 
-/// What party i deals to point p.
-#[tactic(auto, unfolding(share_spec::specs::Dealing::dealt))]
-fn dealt_to(alloc: Global, ring: &Ring, roll: &SeedRoll, i: u32, p: u32) -> Result<Poly, AllocError>
-    requires dealer { i ≤ 255 }
-    requires some_point { 1 ≤ p }
-    requires of_all { p ≤ ring.now.params.parties }
-    ensures value { IfOk result (λ f. f ≡ dealt ring.now.params.q ring.now.params.n ring.now.params.threshold p (party_seed roll.now.master i)) }
-    ensures fits { IfOk result (λ f. IsPoly ring.now.params.q ring.now.params.n f) }
-{
-    let dealing = Dealing::new(alloc, ring, roll.seed(i))?;
-    dealing.at(alloc, ring, p)
-}
+/// Makes shares of instances and encrypts inputs, for one party.
+///
+/// Whatever it makes fits the ring; where it tells the parties' seeds, it is what an honest party with
+/// its seed makes.
+pub trait Party: Sync {
+    // The parameters that it was made for.
+    ghost params: { Self → Params };
 
-/// The share of party p: the sum of what all parties deal to its point.
-fn shared(alloc: Global, ring: &Ring, roll: &SeedRoll, p: u32) -> Result<Poly, AllocError>
-    requires some_party { 1 ≤ p }
-    requires of_all { p ≤ ring.now.params.parties }
-    ensures value { IfOk result (λ f. f ≡ share_at ring.now.params.q ring.now.params.n ring.now.params.threshold (seeds_of roll.now.master ring.now.params.parties) p) }
-    ensures fits { IfOk result (λ f. IsPoly ring.now.params.q ring.now.params.n f) }
-{
-    let parties = ring.params().parties() as u32;
-    let mut dealt = Vec::with_capacity(alloc, parties as usize)?;
-    for i in 0..parties {
-        dealt.push(dealt_to(alloc, ring, roll, i + 1, p)?)?;
-    }
-    combine(alloc, ring, dealt.as_slice())
-}
+    // Its number, from 1 on.
+    ghost number: { Self → ℕ };
 
-/// A party that makes its shares honestly, by its seed and its share of the secret.
-#[derive(Drop)]
-pub struct SeedParty {
-    number: u32,
-    public: [u8; 32],
-    seed: [u8; 32],
-    share: Poly,
-}
+    // The seed from which the common polynomials are drawn.
+    ghost public: { Self → List ℕ };
 
-impl SeedParty {
-    /// Party p of the roll, from 1 to N: all N parties deal to its point.
-    pub fn new(alloc: Global, ring: &Ring, roll: &SeedRoll, p: u32) -> Result<SeedParty, AllocError>
-        requires some_party { 1 ≤ p }
-        requires of_all { p ≤ ring.now.params.parties }
-        ensures number { IfOk result (λ party. party.number ≡ p) }
-        ensures public { IfOk result (λ party. party.public ≡ party_seed roll.now.master 0) }
-        ensures seed { IfOk result (λ party. party.seed ≡ party_seed roll.now.master p) }
-        ensures share { IfOk result (λ party. party.share ≡ share_at ring.now.params.q ring.now.params.n ring.now.params.threshold (seeds_of roll.now.master ring.now.params.parties) p) }
-        ensures fits { IfOk result (λ party. IsPoly ring.now.params.q ring.now.params.n party.share) }
-    {
-        let share = shared(alloc, ring, roll, p)?;
-        Ok(SeedParty {
-            number: p,
-            public: roll.public(),
-            seed: roll.seed(p),
-            share,
-        })
-    }
+    // Whether it tells the parties' seeds; and these, in the order of the parties.
+    ghost tells: { Self → Bool };
+
+    ghost seeds: { Self → List (List ℕ) };
+
+    // The values that it has for inputs.
+    ghost values: { Self → List Placed };
 
     /// The party's number.
-    pub fn number(&self) -> u32
-        ensures { result ≡ self.now.number }
-    {
-        self.number
-    }
+    fn number(&self) -> u32
+        ensures { result ≡ number self.now };
 
-    /// The party's honest share of the public key of an instance with this set: one row.
-    pub fn key_share(
+    /// Its share of an instance, by what it is told of it.
+    fn share(&self, alloc: Global, ring: &Ring, brief: &Brief) -> Result<Share, AllocError>
+        requires ring { params self.now ≡ ring.now.params }
+        requires polys { IsBrief ring.now.params brief.now }
+        ensures id { IfOk result (λ share. share.id ≡ brief.now.id) }
+        ensures party { IfOk result (λ share. share.party ≡ number self.now) }
+        ensures rows { IfOk result (λ share. length share.rows ≡ rows_of brief.now.signature (digit_rows ring.now.params.q ring.now.params.digit_bits)) }
+        ensures fit { IfOk result (λ share. All (IsPoly ring.now.params.q ring.now.params.n) share.rows) }
+        ensures honest { (w : Setting) → w.numbers ≡ numbers_of ring.now.params → w.public ≡ public self.now → tells self.now ≡ true
+            → IfOk result (λ share. share.rows ≡ share_rows w (seeds self.now) brief.now.signature brief.now.id brief.now.set.bits brief.now.polys (number self.now)) };
+
+    /// The encryption of its value for an input of a circuit, under a public key.
+    fn input(
         &self,
         alloc: Global,
         ring: &Ring,
-        id: u32,
-        set: PartySet,
-    ) -> Result<Polys, AllocError>
-        requires { IsPoly ring.now.params.q ring.now.params.n self.now.share }
-        ensures value { IfOk result (λ rows. rows ≡ honest_pk ring.now.params.q ring.now.params.n ring.now.params.err self.now.public self.now.seed id (ring_multiple ring.now.params.q ring.now.params.n (lagrange ring.now.params.q set.bits self.now.number) self.now.share) ∷ []) }
-        ensures fits { IfOk result (λ rows. All (IsPoly ring.now.params.q ring.now.params.n) rows) }
-    {
-        let part = additive(alloc, ring, &self.share, set, self.number)?;
-        pk_share(alloc, ring, self.public, self.seed, id, &part)
-    }
-
-    /// The party's honest share of the decryption of a ciphertext with the second part c1, for an
-    /// instance with this set: one row. Noise is added after the scaling by the Lagrange coefficient.
-    pub fn decryption_share(
-        &self,
-        alloc: Global,
-        ring: &Ring,
-        id: u32,
-        set: PartySet,
-        c1: &Poly,
-    ) -> Result<Polys, AllocError>
-        requires share { IsPoly ring.now.params.q ring.now.params.n self.now.share }
-        requires cipher { IsPoly ring.now.params.q ring.now.params.n c1.now }
-        ensures value { IfOk result (λ rows. rows ≡ honest_dec ring.now.params.q ring.now.params.n ring.now.params.flood self.now.seed id c1.now (ring_multiple ring.now.params.q ring.now.params.n (lagrange ring.now.params.q set.bits self.now.number) self.now.share) ∷ []) }
-        ensures fits { IfOk result (λ rows. All (IsPoly ring.now.params.q ring.now.params.n) rows) }
-    {
-        let part = additive(alloc, ring, &self.share, set, self.number)?;
-        dec_share(alloc, ring, self.seed, id, c1, &part)
-    }
+        key: &PublicKey,
+        circuit: u32,
+        input: u32,
+    ) -> Result<Ciphertext, AllocError>
+        requires ring { params self.now ≡ ring.now.params }
+        requires key { KeyFits ring.now.params.q ring.now.params.n key.now }
+        requires place { IsSome (value_in (values self.now) circuit input) }
+        requires circuit { circuit < 65536 }
+        requires input { input < 65536 }
+        ensures fits { IfOk result (λ c. CipherFits ring.now.params.q ring.now.params.n c) }
+        ensures honest { (m : List ℕ) → value_in (values self.now) circuit input ≡ Some m → tells self.now ≡ true
+            → IfOk result (λ c. c ≡ drawn_encryption ring.now.params.q ring.now.params.n ring.now.params.t ring.now.params.err key.now m (seed_at (seeds self.now) (number self.now)) (input_stream circuit input) 0) };
 }

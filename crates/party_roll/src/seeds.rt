@@ -17,6 +17,15 @@ impl SeedRoll {
         SeedRoll { master }
     }
 
+    /// A second roll of the same master seed.
+    pub(crate) fn copied(&self) -> SeedRoll
+        ensures { result.master ≡ self.now.master }
+    {
+        SeedRoll {
+            master: self.master,
+        }
+    }
+
     /// The seed of party p, and with p = 0 the public seed.
     pub fn seed(&self, p: u32) -> [u8; 32]
         requires { p ≤ 255 }

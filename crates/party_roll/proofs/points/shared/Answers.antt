@@ -1,12 +1,12 @@
 -- Each turn adds what one more party deals; after the last all of it is summed.
-use Rattle.std.proofs.Common.{◌≡◌, ℕ, ◌+◌, List, [], ◌∷◌, ◌++◌, sym, ap, ◌∙◌, subst, arith}
+use Rattle.std.proofs.Common.{◌≡◌, ℕ, List, [], ◌∷◌, ◌++◌, sym, ap, ◌∙◌, subst, arith}
 use Rattle.std.specs.Prelude.{IfOk}
 use Rattle.std.proofs.lemmas.Grind.{common_steps}
 use Rattle.std.proofs.lemmas.List.Elements.{All-push, All-nil, All-same}
 use Rattle.ring_spec.specs.Ring.{IsPoly}
 use Rattle.ring_laws.specs.Aggregate.{ring_total}
-use Rattle.party_roll.proofs.Dealt.{dealt_so_far, so_far-start, so_far-next, so_far-end}
-use Rattle.party_roll.proofs.party.shared.Goals as goal
+use Rattle.party_roll.proofs.Dealt.{so_far-start, so_far-next, so_far-end}
+use Rattle.party_roll.proofs.points.shared.Goals as goal
 
 pub loop-i-init : goal.loop-i-init
 loop-i-init c =

@@ -1,8 +1,8 @@
-use Rattle.std.proofs.Common.{◌≡◌, ℕ}
+use Rattle.std.proofs.Common.{◌≡◌}
 use Rattle.std.specs.Prelude.{All}
 use Rattle.ring_spec.specs.Ring.{IsPoly}
 use Rattle.party_roll.proofs.Dealt.{dealt_so_far}
-use Rattle.party_roll.proofs.party.shared.Given as goal
+use Rattle.party_roll.proofs.points.shared.Given as goal
 
 abbrev pub invariant-loop-i : goal.invariant-loop-i
 invariant-loop-i l = record {
