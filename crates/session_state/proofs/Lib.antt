@@ -1,0 +1,17 @@
+pub mod Planned
+pub mod Steps
+pub mod Behind
+pub mod Growth
+pub mod Joins
+pub mod Finishes
+pub mod Judging
+pub mod Keys
+pub mod Counting
+pub mod LastShares
+pub mod Asked
+pub mod Listed
+pub mod Briefs
+pub mod Rows
+pub mod Givings
+pub mod Takings
+pub mod Openings

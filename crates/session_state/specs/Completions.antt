@@ -1,0 +1,56 @@
+-- What a complete instance gives: the public key, or the answer of a circuit.
+use Rattle.std.specs.Prelude.{◌≡◌, ℕ, ◌+◌, List, [], map, length, slice_index_or, All, Option, ⊤}
+use Rattle.std.specs.List.{range_with_len}
+use Rattle.ring_spec.specs.Ring.{IsPoly, ring_sum}
+use Rattle.ring_spec.specs.Pairs.{Cipher, Key}
+use Rattle.bfv_spec.specs.Scheme.{decryption}
+use Rattle.bfv_spec.specs.Shares.{pk_from}
+use Rattle.param_set.specs.declared.params.Params.{Params}
+use Rattle.proto_names.specs.declared.signature.Signature.{Signature}
+use Rattle.proto_names.specs.declared.signature.Signature.TheVariants.{Pk, Rlk1, Rlk2, Rot, Dec}
+use Rattle.proto_names.specs.declared.instance.Instance.{Instance}
+use Rattle.proto_names.specs.Instances.{after_share}
+use Rattle.session_rules.specs.declared.fixed.Fixed.{Fixed}
+use Rattle.session_rules.specs.States.{State}
+use Rattle.session_rules.specs.Issues.{moves_in, most_moves}
+use Rattle.session_rules.specs.Steps.{answered_by}
+use Rattle.session_spec.specs.Settings.{Setting}
+use Rattle.session_spec.specs.Stores.{Store, held_output, cipher_or}
+use Rattle.session_state.specs.Issuings.{move_of, id_told, polys_told, polys_due, IsFresh}
+use Rattle.session_state.specs.declared.issuing.Step.{Step}
+use Rattle.session_state.specs.declared.completing.Made.{Made}
+use Rattle.session_state.specs.declared.completing.Made.TheVariants.{PublicKey, Answer}
+
+-- a signature whose shares have one row: the public key, or a decryption
+abbrev pub IsOfOne : Signature → Type 0
+IsOfOne Pk = ⊤
+IsOfOne Rlk1 = ⊥
+IsOfOne Rlk2 = ⊥
+IsOfOne (Rot g) = ⊥
+IsOfOne (Dec c) = ⊤
+
+-- what an instance gives, where the store holds the outputs, and these are its sums: the public key
+pub record IsKey (w : Setting) (sums : List (List ℕ)) (i : Instance) (key : Key) : Type 0 where
+  pub signature : i.signature ≡ Pk
+  pub value : key ≡ pk_from w.numbers.q w.numbers.n w.public i.id (slice_index_or sums 0 [])
+
+-- or the answer of circuit c
+pub record IsAnswer (p : Params) (w : Setting) (h : Store) (sums : List (List ℕ)) (i : Instance) (c : ℕ) (answer : List ℕ) : Type 0 where
+  pub signature : i.signature ≡ Dec c
+  pub value : answer ≡ decryption w.numbers.q w.numbers.t (ring_sum w.numbers.q w.numbers.n (cipher_or (held_output h c)).c0 (slice_index_or sums 0 []))
+  pub fits : IsPoly p.t p.n answer
+
+abbrev pub IsMade : Params → Setting → Store → List (List ℕ) → Instance → Made → Type 0
+IsMade p w h sums i (PublicKey key) = IsKey w sums i key.value
+IsMade p w h sums i (Answer c value) = IsAnswer p w h sums i c value
+
+-- the state once the last share of an instance is counted, before anything is issued
+abbrev pub last_counted : State → Instance → ℕ → ℕ → State
+last_counted s i id p = record s { instances = after_share id p s.instances; circuits = answered_by i.signature s.circuits }
+
+-- what the rules of issue issue in a state, with what is told of the circuits' outputs
+pub record IsPlanned (p : Params) (f : Fixed) (s : State) (outputs : List (Option Cipher)) (steps : List Step) : Type 0 where
+  pub moves : map move_of steps ≡ moves_in (most_moves f) f s.present s.instances s.circuits
+  pub ids : map id_told steps ≡ range_with_len (length s.instances + 1) (length steps)
+  pub polys : map polys_told steps ≡ map (polys_due outputs) steps
+  pub fresh : All (IsFresh p) steps

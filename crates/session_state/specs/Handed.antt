@@ -1,0 +1,45 @@
+-- What is handed out: briefs and jobs.
+use Rattle.std.specs.Prelude.{◌≡◌, ℕ, Bool, true, false, List, [], map, length, slice_index_or, All, None}
+use Rattle.bfv_core.specs.Fits.{CipherFits}
+use Rattle.param_set.specs.declared.params.Params.{Params}
+use Rattle.circuit_form.specs.Circuits.{first_fault, owners}
+use Rattle.cipher_spec.specs.Ciphers.{is_switch_free}
+use Rattle.circuit_runner.specs.declared.job.Job.{Job}
+use Rattle.proto_names.specs.declared.instance.Instance.{Instance}
+use Rattle.instance_table.specs.declared.brief.Brief.{Brief}
+use Rattle.session_rules.specs.declared.reply.Reply.{Reply}
+use Rattle.session_rules.specs.declared.reply.Reply.TheVariants as reply
+use Rattle.session_spec.specs.Settings.{Setting, nodes_at}
+use Rattle.session_spec.specs.Stores.{Store, held_polys, cipher_or}
+use Rattle.session_state.specs.Parts.{AreTold}
+
+-- the brief of an instance: what it is, and the polynomials that its parties are told
+pub record IsBriefOf (p : Params) (h : Store) (i : Instance) (brief : Brief) : Type 0 where
+  pub id : brief.id ≡ i.id
+  pub signature : brief.signature ≡ i.signature
+  pub set : brief.set ≡ i.set
+  pub round1 : brief.round1 ≡ i.round1
+  pub polys : brief.polys ≡ held_polys h i.id
+  pub told : AreTold p i.signature brief.polys
+
+-- the reply that goes with it
+abbrev pub brief_reply : Brief → Reply
+brief_reply brief = reply.Brief brief.signature brief.set
+
+-- the job for a circuit: the circuit, and the ciphertexts of its inputs
+pub record IsJobFor (w : Setting) (h : Store) (c : ℕ) (job : Job) : Type 0 where
+  pub number : job.number ≡ c
+  pub circuit : job.circuit.value ≡ nodes_at w c
+  pub inputs : job.inputs ≡ map cipher_or (slice_index_or h.inputs c [])
+
+-- it can be evaluated: its circuit keeps the rules and needs no key switch, and it has each input
+pub record CanEvaluate (p : Params) (job : Job) : Type 0 where
+  pub circuit : first_fault p.n p.t p.parties job.circuit.value ≡ None
+  pub switch_free : is_switch_free job.circuit.value ≡ true
+  pub count : length job.inputs ≡ length (owners job.circuit.value)
+  pub inputs : All (CipherFits p.q p.n) job.inputs
+
+-- whether a reply is the one with lists, which alone takes memory
+abbrev pub is_list : Reply → Bool
+is_list (reply.List ids inputs) = true
+is_list other = false

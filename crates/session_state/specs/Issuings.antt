@@ -1,0 +1,61 @@
+-- What the rules of issue issue after a call, planned before anything is changed.
+use Rattle.std.specs.Prelude.{◌≡◌, ℕ, List, [], Option, ⊤}
+use Rattle.std.specs.declared.alloc.Global.{Global}
+use Rattle.std.specs.declared.sync.Arc.{Arc}
+use Rattle.ring_spec.specs.Pairs.{Cipher}
+use Rattle.param_set.specs.declared.params.Params.{Params}
+use Rattle.proto_names.specs.declared.signature.Signature.{Signature}
+use Rattle.proto_names.specs.declared.signature.Signature.TheVariants.{Dec}
+use Rattle.instance_table.specs.Tables.{no_sums}
+use Rattle.instance_table.specs.declared.brief.Brief.{Brief}
+use Rattle.session_rules.specs.declared.moves.Move.{Move}
+use Rattle.session_rules.specs.declared.moves.Move.TheVariants.{GiveUp, Issue}
+use Rattle.session_spec.specs.Stores.{polys_by}
+use Rattle.session_state.specs.Parts.{store_by}
+use Rattle.session_state.specs.declared.issuing.Step.{Step}
+
+-- ---- the parts of a step
+
+-- the move that it makes
+abbrev pub move_of : Step → Move
+move_of step = Issue step.signature step.brief.value.set step.brief.value.round1
+
+-- the number and the polynomials that it tells
+abbrev pub id_told : Step → ℕ
+id_told step = step.brief.value.id
+
+abbrev pub polys_told : Step → List (List ℕ)
+polys_told step = step.brief.value.polys
+
+-- what it puts into the table
+abbrev pub brief_of : Step → Arc Brief Global
+brief_of step = step.brief
+
+abbrev pub sums_of : Step → List (List ℕ)
+sums_of step = step.sums
+
+-- ---- what they have to be
+
+-- what the parties of an instance are told where these are the circuits' outputs
+abbrev pub polys_from : List (Option Cipher) → Signature → List (List ℕ)
+polys_from outputs σ = polys_by (store_by [] [] [] outputs []) σ
+
+abbrev pub polys_due : List (Option Cipher) → Step → List (List ℕ)
+polys_due outputs step = polys_from outputs step.signature
+
+-- its brief has its signature, and no share is added to its sums
+pub record IsFresh (p : Params) (step : Step) : Type 0 where
+  pub signature : step.brief.value.signature ≡ step.signature
+  pub sums : step.sums ≡ no_sums p step.signature
+
+-- ---- moves
+
+-- a move that issues
+abbrev pub IsIssue : Move → Type 0
+IsIssue (GiveUp id by) = ⊥
+IsIssue (Issue σ set round1) = ⊤
+
+-- one that issues the decryption of circuit c
+abbrev pub Decrypts : Move → ℕ → Type 0
+Decrypts (GiveUp id by) c = ⊥
+Decrypts (Issue σ set round1) c = σ ≡ Dec c

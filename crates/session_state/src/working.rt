@@ -1,0 +1,94 @@
+ghost use Rattle.std.specs.Prelude.{◌≡◌, ◌<◌, true, false, length, map, All, IfOk, IfSome, OnOk, OnErr, None};
+ghost use Rattle.session_rules.specs.declared.reply.Reply.TheVariants as reply;
+ghost use Rattle.session_spec.specs.Stores.{cipher_or};
+ghost use Rattle.session_state.specs.Parts.{ciphers_in, IsThere};
+ghost use Rattle.session_state.specs.Standings.{setting, rules_of, state, store, taken, IsUnchanged};
+ghost use Rattle.session_rules.specs.Steps.{ready, next_ready};
+ghost use Rattle.session_rules.specs.Facts.{Kept};
+ghost use Rattle.session_rules.specs.Runs.{Grounded};
+ghost use Rattle.session_state.specs.Handed.{IsJobFor, CanEvaluate, is_list};
+
+use crate::{Places, Standing, Taking};
+use circuit_runner::{Inputs, Job};
+use mod_ring::Ciphertext;
+use session_rules::{CircuitState, Reply, next_ready};
+use std::alloc::{AllocError, Global};
+use std::sync::Arc;
+
+/// The ciphertexts of a circuit's inputs, all of which are there.
+fn gathered(alloc: Global, places: &Places<Arc<Ciphertext>>) -> Result<Inputs, AllocError>
+    requires { All IsThere places.now }
+    ensures { IfOk result (λ inputs. inputs ≡ map cipher_or (ciphers_in places.now)) }
+{
+    let mut inputs = Inputs::new(alloc);
+    'places: for place in 0..places.len() {
+        if let Some(input) = places.get(place) {
+            inputs.push(Arc::try_clone(input)?)?;
+        }
+    }
+    Ok(inputs)
+}
+
+impl Standing {
+    /// The least circuit that is ready.
+    fn next(&self) -> Option<u32>
+        ensures { result ≡ next_ready (rules_of self.now) (state self.now) }
+    {
+        next_ready(
+            &self.rules,
+            self.table.instances(),
+            self.given.as_slice(),
+            self.states.as_slice(),
+        )
+    }
+
+    /// The job for a circuit that is ready.
+    fn job(&self, alloc: Global, number: u32) -> Result<Job, AllocError>
+        requires there { number < length self.now.circuits }
+        requires ready { ready (rules_of self.now) (state self.now) number ≡ true }
+        requires grounded { Grounded (rules_of self.now) (state self.now) }
+        ensures circuit { IfOk result (λ j. IsJobFor (setting self.now) (store self.now) number j) }
+        ensures ready { IfOk result (λ j. CanEvaluate self.now.params j) }
+    {
+        let place = number as usize;
+        let circuit = Arc::try_clone(&self.circuits.at(place).circuit)?;
+        let inputs = gathered(alloc, &self.inputs[place])?;
+        Ok(Job {
+            number,
+            circuit,
+            inputs,
+        })
+    }
+
+    /// Gives a caller the least circuit that is ready, which is its own then: Job, and Nothing where none is ready.
+    /// Only Job takes memory.
+    pub fn take(&mut self, alloc: Global, caller: u32) -> Result<Taking, AllocError>
+        requires kept { Kept (rules_of self.old) (state self.old) }
+        requires grounded { Grounded (rules_of self.old) (state self.old) }
+        ensures reply { IfOk result (λ t. t.reply ≡ (taken self.old caller).0) }
+        ensures plain { IfOk result (λ t. is_list t.reply ≡ false) }
+        ensures state { OnOk result (state self.new ≡ (taken self.old caller).1) }
+        ensures store { OnOk result (store self.new ≡ store self.old) }
+        ensures job { IfOk result (λ t. IfSome t.job (λ j. (taken self.old caller).0 ≡ reply.Job j.number)) }
+        ensures there { IfOk result (λ t. t.job ≡ None → (taken self.old caller).0 ≡ reply.Nothing) }
+        ensures circuit { IfOk result (λ t. IfSome t.job (λ j. IsJobFor (setting self.old) (store self.old) j.number j)) }
+        ensures ready { IfOk result (λ t. IfSome t.job (λ j. CanEvaluate self.old.params j)) }
+        ensures setting { setting self.new ≡ setting self.old }
+        ensures params { self.new.params ≡ self.old.params }
+        ensures unchanged { OnErr result (IsUnchanged self.old self.new) }
+        ensures free { OnErr result ((taken self.old caller).0 ≡ reply.Nothing → ⊥) }
+    {
+        let Some(number) = self.next() else {
+            return Ok(Taking {
+                reply: Reply::Nothing,
+                job: None,
+            });
+        };
+        let job = self.job(alloc, number)?;
+        self.states[number as usize] = CircuitState::Taken { caller };
+        Ok(Taking {
+            reply: Reply::Job { circuit: number },
+            job: Some(job),
+        })
+    }
+}
