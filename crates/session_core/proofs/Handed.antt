@@ -1,0 +1,183 @@
+-- What is handed out where the polynomials are honest, and that it fits.
+use Rattle.std.proofs.Common.{◌≡◌, ◌∙◌, sym, ap, subst, refl, ℕ, ◌+◌, ◌-◌, ◌<◌, Bool, true, false, not, inl, inr, List, [], length, map, get_or, Contains, Option, Some, None, arith}
+use Rattle.std.specs.Prelude.{◌⊎◌, All, if◌then◌else◌, IfSome, IsSome, IsTrue}
+use Rattle.std.specs.List.{range_with_len}
+use Rattle.std.specs.declared.alloc.Global.{Global}
+use Rattle.std.specs.declared.sync.Arc.{Arc}
+use Rattle.std.specs.Option.{option_map}
+use Rattle.std.proofs.lemmas.Bool.{not-true}
+use Rattle.std.proofs.lemmas.List.Elements.{All-contains}
+use Rattle.ring_spec.specs.Pairs.{Cipher, Key}
+use Rattle.param_set.specs.declared.params.Params.{Params}
+use Rattle.proto_names.specs.Names.{is_void}
+use Rattle.proto_names.specs.Instances.{instance}
+use Rattle.proto_names.specs.declared.signature.Signature.{Signature}
+use Rattle.proto_names.specs.declared.signature.Signature.TheVariants.{Pk, Dec}
+use Rattle.proto_names.specs.declared.instance.Instance.{Instance}
+use Rattle.proto_names.specs.declared.instance.Stage.{Stage}
+use Rattle.proto_names.specs.declared.instance.Stage.TheVariants.{Opened, Complete, Void}
+use Rattle.circuit_runner.specs.declared.job.Job.{Job}
+use Rattle.instance_table.specs.Tables.{stands as is_standing}
+use Rattle.instance_table.specs.declared.brief.Brief.{Brief}
+use Rattle.party_roll.specs.Briefs.{is_made, polys_wanted, IsBrief}
+use Rattle.session_rules.specs.declared.call.Entry.{Entry}
+use Rattle.session_rules.specs.declared.reply.Reply.{Reply}
+use Rattle.session_rules.specs.declared.reply.Reply.TheVariants as reply
+use Rattle.session_rules.specs.declared.fixed.Fixed.{Fixed}
+use Rattle.session_rules.specs.declared.state.CircuitState.TheVariants.{Taken}
+use Rattle.session_rules.specs.States.{State}
+use Rattle.session_rules.specs.Issues.{keys}
+use Rattle.session_rules.specs.Steps as steps
+use Rattle.session_rules.specs.Facts.{IsLive}
+use Rattle.session_rules.specs.Histories.{state_after}
+use Rattle.session_rules.specs.Runs.{Grounded}
+use Rattle.session_rules.proofs.Contained.{find_some, range_within}
+use Rattle.session_rules.proofs.Marks.{instance_within}
+use Rattle.session_spec.specs.Settings.{Setting, rules}
+use Rattle.session_spec.specs.Outputs.{key_instance, key_in, inputs_of, polys_of, sums_of}
+use Rattle.session_spec.specs.Stores.{Store, cipher_or, held_polys, held_sums, held_key, key_by}
+use Rattle.session_spec.specs.Laws.{Stands}
+use Rattle.session_laws.proofs.Plans.{rules_number, instance_number}
+use Rattle.session_laws.proofs.Inputs.{ready_ones_have_inputs}
+use Rattle.session_laws.proofs.HeldKeys.{held_keys_are_keys}
+use Rattle.session_state.specs.declared.standing.Standing.{Standing}
+use Rattle.session_state.specs.Parts.{polys_told, IsPk}
+use Rattle.session_state.specs.Shared.{shared_if}
+use Rattle.session_state.specs.Handed.{IsBriefOf, IsJobFor, brief_reply}
+use Rattle.session_state.specs.Standings.{rules_of, state, store}
+use Rattle.session_core.proofs.Grown.{grounded}
+
+-- ---- the public key
+
+pub record HasMade (w : Setting) (h : Store) (is : List Instance) (key : Key) : Type 0 where
+  pub instance : Instance
+  pub found : key_instance is ≡ Some instance
+  pub made : key ≡ key_by w h instance
+
+made_if : (w : Setting) (h : Store) (is : List Instance) (key : Key) (o : Option Instance) → key_instance is ≡ o → Some key ≡ option_map (key_by w h) o → HasMade w h is key
+made_if w h is key None e made = cc
+made_if w h is key (Some i) e made = record { instance = i; found = e; made = cc }
+
+pub has_made : (w : Setting) (h : Store) (is : List Instance) (key : Key) → Some key ≡ held_key w h is → HasMade w h is key
+unfolding held_key
+has_made w h is key made = made_if w h is key (key_instance is) refl made
+
+pub key_honest : (p : Params) (w : Setting) (seeds : List (List ℕ)) (s : State) (h : Store) (key : Key) → Stands p w seeds s h → Some key ≡ held_key w h s.instances → key ≡ key_in w seeds s.instances
+key_honest p w seeds s h key y made = let m = has_made w h s.instances key made in m.made ∙ held_keys_are_keys p w seeds s h m.instance y m.found
+
+-- ---- briefs
+
+pub record HasBrief (s : State) (id : ℕ) : Type 0 where
+  pub instance_ : Instance
+  pub found : instance s.instances id ≡ Some instance_
+  pub lives : IsLive instance_
+
+told_live : (i : Instance) (b : Brief) (stage : Stage) → i.stage ≡ stage → steps.told i stage ≡ brief_reply b → IsLive i
+unfolding steps.told
+told_live i b (Void by) e told = cc
+told_live i b Opened e told = rw e refl
+told_live i b Complete e told = rw e refl
+
+brief_if : (s : State) (id : ℕ) (b : Brief) (o : Option Instance) → instance s.instances id ≡ o → (elim o as (λ x. Reply) [
+  | None ↦ reply.Unknown (length s.instances)
+  | Some i ↦ steps.told i i.stage
+]) ≡ brief_reply b → HasBrief s id
+brief_if s id b None e told = cc
+brief_if s id b (Some i) e told = record { instance_ = i; found = e; lives = told_live i b i.stage refl told }
+
+pub has_brief : (s : State) (id : ℕ) (b : Brief) → steps.brief s id ≡ brief_reply b → HasBrief s id
+unfolding steps.brief
+has_brief s id b told = brief_if s id b (instance s.instances id) refl told
+
+brief_made : (p : Params) (h : Store) (i : Instance) (b : Brief) (σ : Signature) → IsBriefOf p h i b → i.signature ≡ σ → is_made σ ≡ true → polys_told σ ≡ polys_wanted σ → IsBrief p b
+brief_made p h i b σ x e made number = record {
+  made = rw (x.signature, e) made;
+  number = x.told.number ∙ ap polys_told e ∙ number ∙ ap polys_wanted (sym (x.signature ∙ e));
+  fit = x.told.fit;
+}
+
+pub brief_fits : (st : Standing) (es : List Entry) (i : Instance) (h : Store) (b : Brief) → state st ≡ state_after (rules_of st) es → Contains (state st).instances i
+    → IsBriefOf st.params h i b → IsBrief st.params b
+brief_fits st es i h b e m x = elim ((grounded st es e).asked i m) [
+  | inl wanted ↦
+      let wanted_here : Contains st.needed.items i.signature = rw (st.needed_are, st.rules_are) wanted in
+      brief_made st.params h i b Pk x (All-contains IsPk st.needed.items i.signature st.only_keys wanted_here) refl refl
+  | inr decrypts ↦ brief_made st.params h i b (Dec decrypts.0) x decrypts.1 refl refl
+]
+
+pub brief_honest : (p : Params) (w : Setting) (seeds : List (List ℕ)) (s : State) (h : Store) (id : ℕ) (i : Instance) (b : Brief) → Stands p w seeds s h
+    → instance s.instances id ≡ Some i → IsLive i → IsBriefOf p h i b → b.polys ≡ polys_of w seeds (key_in w seeds s.instances) b.signature
+brief_honest p w seeds s h id i b y found lives x =
+    let same : held_polys h i.id ≡ held_polys h id = ap (held_polys h) (instance_number s.instances id i y.kept.numbered found) in
+    x.polys ∙ same ∙ y.honest.told id i found lives ∙ ap (polys_of w seeds (key_in w seeds s.instances)) (sym x.signature)
+
+-- ---- sums
+
+live_if : (o : Option Instance) (i : Instance) → o ≡ Some i → (elim o as (λ x. Bool) [
+  | None ↦ false
+  | Some i ↦ not (is_void i.stage)
+]) ≡ true → IsLive i
+live_if None i e stands = cc
+live_if (Some j) i e stands = let same : j ≡ i = cc in subst IsLive same (not-true (is_void j.stage) stands)
+
+pub standing_lives : (is : List Instance) (id : ℕ) (i : Instance) → instance is id ≡ Some i → is_standing is id ≡ true → IsLive i
+unfolding is_standing
+standing_lives is id i found stands = live_if (instance is id) i found stands
+
+-- ---- what may be handed out
+
+pub key_if : (p : Params) (w : Setting) (seeds : List (List ℕ)) (s : State) (h : Store) (key : Option (Arc Key Global)) → Stands p w seeds s h → shared_if key ≡ held_key w h s.instances
+    → IfSome key (λ k. k.value ≡ key_in w seeds s.instances)
+key_if p w seeds s h None y made = tt
+key_if p w seeds s h (Some key) y made = key_honest p w seeds s h key.value y made
+
+pub made_of : (st : Standing) (es : List Entry) (id : ℕ) (said : Reply) (handed : Option (Arc Brief Global)) → state st ≡ state_after (rules_of st) es → said ≡ steps.brief (state st) id
+    → IfSome handed (λ a. said ≡ brief_reply a.value)
+    → IfSome handed (λ a. (i : Instance) → instance (state st).instances id ≡ Some i → IsBriefOf st.params (store st) i a.value)
+    → IfSome handed (λ a. IsBrief st.params a.value)
+made_of st es id said None e replies goes told = tt
+made_of st es id said (Some a) e replies goes told =
+    let b = has_brief (state st) id a.value (sym replies ∙ goes) in
+    brief_fits st es b.instance_ (store st) a.value e (instance_within (state st).instances id b.instance_ b.found) (told b.instance_ b.found)
+
+pub polys_of_if : (p : Params) (w : Setting) (seeds : List (List ℕ)) (s : State) (h : Store) (id : ℕ) (said : Reply) (handed : Option (Arc Brief Global)) → Stands p w seeds s h
+    → said ≡ steps.brief s id → IfSome handed (λ a. said ≡ brief_reply a.value)
+    → IfSome handed (λ a. (i : Instance) → instance s.instances id ≡ Some i → IsBriefOf p h i a.value)
+    → IfSome handed (λ a. a.value.polys ≡ polys_of w seeds (key_in w seeds s.instances) a.value.signature)
+polys_of_if p w seeds s h id said None y replies goes told = tt
+polys_of_if p w seeds s h id said (Some a) y replies goes told =
+    let b = has_brief s id a.value (sym replies ∙ goes) in
+    brief_honest p w seeds s h id b.instance_ a.value y b.found b.lives (told b.instance_ b.found)
+
+pub sums_if : {X : Type 0} (p : Params) (w : Setting) (seeds : List (List ℕ)) (s : State) (h : Store) (id : ℕ) (read : X → List (List ℕ)) (handed : Option X) → Stands p w seeds s h
+    → IfSome handed (λ x. read x ≡ held_sums h id) → (IsSome handed → IsTrue (is_standing s.instances id))
+    → IfSome handed (λ x. (i : Instance) → instance s.instances id ≡ Some i → read x ≡ sums_of w seeds (key_in w seeds s.instances) i)
+sums_if p w seeds s h id read None y value stands = tt
+sums_if p w seeds s h id read (Some x) y value stands = λ i found. value ∙ y.honest.sums id i found (standing_lives s.instances id i found (stands refl))
+
+-- ---- the inputs of a circuit
+
+ready_if : (s : State) (c : ℕ) (goes : ℕ → State) (o : Option ℕ) → (elim o as (λ x. Reply × State) [
+  | None ↦ (reply.Nothing, s)
+  | Some d ↦ (reply.Job d, goes d)
+]).0 ≡ reply.Job c → o ≡ Some c
+ready_if s c goes None e = cc
+ready_if s c goes (Some d) e = cc
+
+taken_ready : (f : Fixed) (s : State) (who c : ℕ) → (steps.take f s who).0 ≡ reply.Job c → steps.next_ready f s ≡ Some c
+unfolding steps.take
+taken_ready f s who c e = ready_if s c (λ d. steps.with_circuit s d (Taken who)) (steps.next_ready f s) e
+
+taken_inputs : (p : Params) (w : Setting) (seeds : List (List ℕ)) (s : State) (h : Store) (c : ℕ) → Stands p w seeds s h → steps.next_ready (rules w) s ≡ Some c
+    → map cipher_or (get_or h.inputs c []) ≡ inputs_of w seeds (key_in w seeds s.instances) c
+unfolding steps.next_ready
+taken_inputs p w seeds s h c y e =
+    let found = find_some (steps.ready (rules w) s) (range_with_len 0 (length (rules w).plans)) c e in
+    let within = range_within 0 (length (rules w).plans) c found.0 in
+    ready_ones_have_inputs p w seeds s h c y (omega (arith, rules_number w)) found.1
+
+pub inputs_if : (p : Params) (w : Setting) (seeds : List (List ℕ)) (s : State) (h : Store) (who : ℕ) (job : Option Job) → Stands p w seeds s h
+    → IfSome job (λ j. (steps.take (rules w) s who).0 ≡ reply.Job j.number) → IfSome job (λ j. IsJobFor w h j.number j)
+    → IfSome job (λ j. j.inputs ≡ inputs_of w seeds (key_in w seeds s.instances) j.number)
+inputs_if p w seeds s h who None y goes is = tt
+inputs_if p w seeds s h who (Some j) y goes is = is.inputs ∙ taken_inputs p w seeds s h j.number y (taken_ready (rules w) s who j.number goes)
