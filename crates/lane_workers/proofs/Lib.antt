@@ -1,0 +1,4 @@
+pub mod Growth
+pub mod Bringing
+pub mod Owing
+pub mod Present
