@@ -1,2 +1,4 @@
-pub mod Opens
-pub mod Bytes
+mod Bytes
+mod Inputs
+mod Party
+mod Session

@@ -1,4 +1,5 @@
-pub mod Frame
 pub mod Numbers
-pub mod OneParty
+pub mod Runs
+pub mod Inputs
+pub mod Parties
 pub mod Owed

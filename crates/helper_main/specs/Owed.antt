@@ -1,12 +1,13 @@
 -- What the program writes, and what each status means. Where a source or a sink doesn't tell its
 -- bytes, nothing is said of them.
-use Rattle.std.specs.Prelude.{◌≡◌, ℕ, ◌<◌, ◌≤◌, ◌⊎◌, ⊤, List, [], ◌∷◌, length, take, codes, Option, Some, None, IsSome}
+use Rattle.std.specs.Prelude.{◌≡◌, ℕ, ◌<◌, ◌≤◌, ◌⊎◌, ⊤, List, [], length, take, codes, Option, Some, None, IsSome}
 use Rattle.std.specs.Io.KnownBytes.{Appends}
 use Rattle.edge_io.specs.Taking.{TakesAtMost, TakesMoreThan}
-use Rattle.session_script.specs.Form.{Spelled, form}
+use Rattle.session_script.specs.Asked.{Asked}
+use Rattle.session_script.specs.Form.{form}
 use Rattle.helper_main.specs.declared.status.Status.{Status}
 use Rattle.helper_main.specs.declared.status.Status.TheVariants.{Done, Usage, Script, Read, Write, Memory}
-use Rattle.helper_main.specs.OneParty.{report_of}
+use Rattle.helper_main.specs.Runs.{serial_report}
 
 -- the greatest number of bytes of a script
 abbrev pub most_bytes : ℕ
@@ -21,13 +22,9 @@ refused_long = codes "refused long\n"
 abbrev pub refused_form : List ℕ
 refused_form = codes "refused form\n"
 
--- the report of what a script spells, with the numbers of its form
-unfoldable pub report : Spelled → List ℕ
-report s = report_of 31525197391593473 8 16 1 s.master s.first s.second
-
 -- the text that is owed where a script was read whole
-abbrev pub owed : Option Spelled → List ℕ
-owed (Some s) = report s
+abbrev pub owed : Option Asked → List ℕ
+owed (Some a) = serial_report a
 owed None = refused_form
 
 -- the first bytes of a text were written, and not all of them

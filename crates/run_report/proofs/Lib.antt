@@ -1,4 +1,5 @@
 pub mod Trimmed
 pub mod Spaced
 pub mod Hashed
+pub mod Sections
 mod Instances

@@ -1,3 +1,5 @@
 pub mod Values
 pub mod Digests
 pub mod Lines
+pub mod Reports
+pub mod Told

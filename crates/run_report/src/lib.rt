@@ -1,18 +1,21 @@
-//! The lines of a report that tell a circuit's value and the digest of its output.
+//! The report of a script: what a session has come to, as text.
 //!
-//! A value is printed as its coefficients, a ciphertext as the SHA-256 (FIPS 180-4) of its
-//! coefficients. Callers may rely on this: with `Ok` a text grew by exactly the line that the
-//! definitions give, for every name, value and ciphertext, and with `Err`, which only want of memory
-//! gives, it is as it was. Nothing is said of a name's bytes: a name with a space or a line's end in
-//! it is written as it stands.
+//! It tells each circuit (refused, open, or its value), the digest of each output, each instance with
+//! the digest of its sums, and each entry of the log (docs/FORMATS.md). A digest is the SHA-256 (FIPS
+//! 180-4) of coefficients. Callers may rely on this: `text` is exactly the report that
+//! `specs/Reports.antt` defines for the script and the session's log, with the values, outputs and sums
+//! of honest parties, and with `Err`, which only want of memory gives, a line leaves a text as it was.
+//! Nothing is said of a name's bytes: they are written as they stand.
 #![tactic(auto)]
 
 mod digests;
 mod lines;
+mod report;
 mod values;
 
 pub use digests::{cipher_digest, polys_digest};
-pub use lines::{circuit_line, output_line};
+pub use lines::{circuit_line, open_line, output_line, refused_line};
+pub use report::text;
 
 #[cfg(test)]
 mod tests;

@@ -1,6 +1,7 @@
 //! The printed lines, against texts written by hand and digests made by another SHA-256.
-use crate::{circuit_line, output_line, polys_digest};
+use crate::{circuit_line, open_line, output_line, polys_digest, refused_line};
 use mod_ring::{Ciphertext, Polys, Ring, of_signed};
+use noise_ledger::{Over, Place};
 use param_set::{Params, Plain};
 use std::alloc::{AllocError, Global};
 use std::test::Fail;
@@ -56,5 +57,31 @@ fn digests(rt: HostRuntime) -> Result<(), Fail> {
     }
     let three = b"1048d3b8ed6f750a533b84c53aa3ffd545de9c6d18642b153c55fdc170ae84ad";
     assert_eq!(rt; polys_digest(&sums).as_slice(), three.as_slice());
+    Ok(())
+}
+
+#[test]
+fn circuits_without_values(rt: HostRuntime) -> Result<(), Fail> {
+    let mut text = Vec::new(rt.alloc());
+    let over = Over {
+        place: Place::Node(12),
+        bound: u128::MAX,
+        limit: 4294967295,
+    };
+    refused_line(&mut text, b"wide", over)?;
+    open_line(&mut text, b"sum-1")?;
+    let last = Over {
+        place: Place::Output,
+        bound: 70,
+        limit: 0,
+    };
+    refused_line(&mut text, b"c", last)?;
+    let mut want = Vec::new(rt.alloc());
+    want.extend_from_slice(
+        b"circuit wide refused node 12 bound 340282366920938463463374607431768211455 limit 4294967295\n",
+    )?;
+    want.extend_from_slice(b"circuit sum-1 open\n")?;
+    want.extend_from_slice(b"circuit c refused output bound 70 limit 0\n")?;
+    assert_eq!(rt; text.as_slice(), want.as_slice());
     Ok(())
 }

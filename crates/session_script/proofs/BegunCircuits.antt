@@ -28,7 +28,7 @@ all-below : (t : ℕ) (xs : List ℕ) → list_all (λ x. nat_lt x t) xs ≡ tru
 all-below t xs e = λ k d inside. ltb-true _ t (AllPass-from_list_all (λ x. nat_lt x t) xs e k d inside)
 
 -- filled up, the coefficients are a polynomial
-IsPoly-filled : (n t : ℕ) (xs : List ℕ) → 0 < t → length xs ≤ n → All (λ x. x < t) xs → IsPoly t n (filled n xs)
+pub IsPoly-filled : (n t : ℕ) (xs : List ℕ) → 0 < t → length xs ≤ n → All (λ x. x < t) xs → IsPoly t n (filled n xs)
 IsPoly-filled n t xs positive short below = record {
   entries = omega (arith, length-append xs (replicate (n - length xs) 0), length-replicate {A = ℕ} (n - length xs) 0);
   below = All-append (λ x. x < t) xs (replicate (n - length xs) 0) below (All-replicate (λ x. x < t) (n - length xs) 0 positive);

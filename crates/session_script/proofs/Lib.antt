@@ -2,6 +2,7 @@ pub mod BegunCircuits
 pub mod Chains
 pub mod EntriesLemmas
 pub mod FitsLemmas
+pub mod FrameLemmas
 pub mod KeptLemmas
 pub mod PieceLemmas
 mod Instances

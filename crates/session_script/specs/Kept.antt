@@ -1,5 +1,5 @@
--- What the circuits of each accepted script keep.
-use Rattle.std.specs.Prelude.{◌≡◌, true, None, All, length}
+-- What the circuits of each accepted script keep, and who is present in a script of the one form.
+use Rattle.std.specs.Prelude.{◌≡◌, ℕ, ◌<◌, ◌≤◌, List, [], ◌∷◌, true, None, All, length, ⊤}
 use Rattle.ring_spec.specs.Ring.{IsPoly}
 use Rattle.circuit_form.specs.Circuits.{first_fault, owners}
 use Rattle.session_script.specs.Asked.{Numbers, Named, Asked}
@@ -16,3 +16,17 @@ pub record IsNamed (numbers : Numbers) (circuit : Named) : Type 0 where
 -- all circuits of a script
 abbrev pub AreNamed : Asked → Type 0
 AreNamed script = All (IsNamed script.numbers) script.circuits
+
+-- the number of a party
+abbrev pub IsParty : Numbers → ℕ → Type 0
+IsParty numbers p = (1 ≤ p) × (p ≤ numbers.parties)
+
+-- numbers each of which is above the last, the first above this one
+unfoldable pub Rising : ℕ → List ℕ → Type 0
+Rising last [] = ⊤
+Rising last (p ∷ rest) = (last < p) × Rising p rest
+
+-- those who are present are parties, each named once
+pub record ArePresent (script : Asked) : Type 0 where
+  pub parties : All (IsParty script.numbers) script.present
+  pub rising : Rising 0 script.present

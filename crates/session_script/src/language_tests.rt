@@ -1,5 +1,5 @@
 //! Whole scripts, and one refusal of each kind.
-use crate::{Line, Reason, ScriptStop, WholeScript, read_script};
+use crate::{Line, Reason, Script, ScriptStop, read_script};
 use param_set::Field;
 use std::alloc::{AllocError, Global};
 use std::test::Fail;
@@ -31,7 +31,7 @@ fn changed(alloc: Global, line: usize, text: &str) -> Result<String, AllocError>
 }
 
 // What is read from a short text.
-fn read(alloc: Global, text: &str) -> Result<WholeScript, ScriptStop> {
+fn read(alloc: Global, text: &str) -> Result<Script, ScriptStop> {
     let bytes = text.as_bytes();
     if bytes.len() > 1_048_576 {
         return Err(ScriptStop::NoMemory);
@@ -126,7 +126,7 @@ done
 # nothing else";
 
 // The script of every statement.
-fn whole(alloc: Global) -> Result<WholeScript, ScriptStop> {
+fn whole(alloc: Global) -> Result<Script, ScriptStop> {
     read(alloc, WHOLE)
 }
 

@@ -1,5 +1,5 @@
 -- A failed write of the report wrote a first part of what is owed.
-use Rattle.std.proofs.Common.{◌≡◌, ◌∙◌, ap, sym, subst, ℕ, List}
+use Rattle.std.proofs.Common.{◌∙◌, ap, sym, subst, ℕ, List}
 use Rattle.helper_main.specs.Owed.{owed, WritesPart}
 use Rattle.helper_main.proofs.run.answer.Goals as goal
 

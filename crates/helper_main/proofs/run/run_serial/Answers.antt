@@ -1,5 +1,4 @@
 -- Where the script is too long, the line that says so was written.
-use Rattle.std.proofs.Common.{◌≡◌, ◌∙◌, ap, Err, Result, ℕ}
 use Rattle.helper_main.proofs.Bytes.{refuses-long}
 use Rattle.helper_main.proofs.run.run_serial.Goals as goal
 
