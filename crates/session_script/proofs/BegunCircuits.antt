@@ -10,9 +10,8 @@ use Rattle.circuit_form.specs.declared.node.Node.TheVariants as node
 use Rattle.circuit_form.specs.Circuits.{fits, may_stand, first_wrong, first_fault, owners}
 use Rattle.session_script.specs.declared.reason.Reason.TheVariants as reason
 use Rattle.session_script.specs.declared.place.OpenCircuit.{OpenCircuit}
-use Rattle.session_script.specs.Form.{filled}
 use Rattle.session_script.specs.Asked.{Numbers}
-use Rattle.session_script.specs.CircuitLines.{is_name, plain, is_circuit, with_node}
+use Rattle.session_script.specs.CircuitLines.{is_name, filled, plain, is_circuit, with_node}
 use Rattle.session_script.proofs.Chains.{chosen, both}
 
 -- of a circuit that has begun

@@ -1,7 +1,9 @@
--- The circuits of each accepted script are circuits with fitting values: an invariant of the places.
-use Rattle.std.proofs.Common.{◌≡◌, ℕ, ◌+◌, ◌-◌, ◌*◌, ◌%◌, ◌<◌, Bool, true, false, cond, not, ◌&&◌, List, [], ◌∷◌, length, All, Option, Some, None, Result, Ok, Err, IfOk, refl, arith, nat_le, nat_lt, ltb-true, drop, is_none, codes, ◌==◌}
+-- What each accepted script keeps, as an invariant of the places: its circuits are at most 64, with fitting
+-- values, and those who are present are parties and rise.
+use Rattle.std.proofs.Common.{◌≡◌, ℕ, ◌+◌, ◌-◌, ◌*◌, ◌%◌, ◌<◌, ◌≤◌, Bool, true, false, cond, not, ◌&&◌, List, [], ◌∷◌, ◌++◌, length, All, Option, Some, None, Result, Ok, Err, IfOk, refl, ◌∙◌, arith, nat_le, nat_lt, leb-true, ltb-true, append_assoc, drop, is_none, codes, ◌==◌, if◌then◌else◌}
 use Rattle.std.specs.Prelude.{⊤}
 use Rattle.std.specs.List.{list_any}
+use Rattle.std.proofs.lemmas.List.{append-nil, length-append}
 use Rattle.std.proofs.lemmas.List.Elements.{All-append, All-cons, All-nil}
 use Rattle.std.proofs.lemmas.Result.{IfOk-at_ok}
 use Rattle.ring_spec.specs.Ring.{IsPoly}
@@ -25,16 +27,23 @@ use Rattle.session_script.specs.Heads.{version_statement, given_params, judged, 
 use Rattle.session_script.specs.CircuitLines.{is_name, has_name, circuit_statement, has_room, is_earlier, plain, input_statement, const_node, operands, neg_node, may_turn, is_turn, rot_statement, other_node, is_circuit, circuit_end, in_circuit}
 use Rattle.session_script.specs.LaneLines.{lane_statement, lane_line, lane_end, in_lane, workers_statement}
 use Rattle.session_script.specs.Scripts.{done_statement, between_lanes, between_circuits, statement, spoken, after_line, Refusal, ended, past_line, read_from}
-use Rattle.session_script.specs.Kept.{IsNamed, AreNamed}
+use Rattle.session_script.specs.Kept.{IsNamed, AreNamed, IsParty, Rising, ArePresent}
 use Rattle.session_script.proofs.Chains.{past_test, past, past_known, either, chosen, both}
 use Rattle.session_script.proofs.BegunCircuits.{IsBegun, plain-fits, stands_behind, input-begun, IsOther, other-begun, poly-fits}
 
 -- ---- what is kept
 
+-- of a script: whatever else stands in it
+record IsKept (numbers : Numbers) (present : List ℕ) (circuits : List Named) : Type 0 where
+  modulus : 0 < numbers.t
+  parties : All (IsParty numbers) present
+  rising : Rising 0 present
+  named : All (IsNamed numbers) circuits
+  few : length circuits ≤ 64
+
 -- of a script behind its head
-record IsDrafted (draft : Draft) : Type 0 where
-  modulus : 0 < draft.frame.t
-  circuits : All (IsNamed draft.frame) draft.circuits
+abbrev IsDrafted : Draft → Type 0
+IsDrafted draft = IsKept draft.frame draft.present draft.circuits
 
 -- of a place
 unfoldable Sound : Place → Type 0
@@ -43,7 +52,7 @@ Sound place.Versioned = ⊤
 Sound (place.Measured numbers) = 0 < numbers.t
 Sound (place.Seeded numbers master) = 0 < numbers.t
 Sound (place.Circuits draft) = IsDrafted draft
-Sound (place.InCircuit draft begun) = IsDrafted draft × IsBegun draft.frame begun
+Sound (place.InCircuit draft begun) = IsDrafted draft × IsBegun draft.frame begun × (length draft.circuits < 64)
 Sound (place.Lanes draft) = IsDrafted draft
 Sound (place.InLane draft lane) = IsDrafted draft
 Sound (place.Closing draft) = IsDrafted draft
@@ -90,13 +99,39 @@ seed-sound numbers words some =
     past_test Sound (is_statement (codes "seed") 2 words) reason.Word _ (λ named.
     past Sound (master_seed (word_at words 1)) _ (λ master spelled. some))
 
+-- where a choice between a result and a refusal gave a value, the test held
+if_ok : (b : Bool) (r : Result (List ℕ) Reason) (why : Reason) (y : List ℕ) → (if b then r else Err why) ≡ Ok y → (b ≡ true) × (r ≡ Ok y)
+if_ok true r why y e = (refl, e)
+if_ok false r why y e = (cc, cc)
+
+-- what rises is what is given, behind those before
+rising-given : (numbers : Numbers) (before : List ℕ) (last : ℕ) (given out : List ℕ) → rising numbers.parties before last given ≡ Ok out → (out ≡ before ++ given) × Rising last given × All (IsParty numbers) given
+unfolding rising Rising
+rising-given numbers before last [] out e = (rw (append-nil before) cc, tt, All-nil (IsParty numbers))
+rising-given numbers before last (p ∷ rest) out e =
+    let step = if_ok (nat_lt last p && nat_le p numbers.parties) (rising numbers.parties (before ++ p ∷ []) p rest) _ out e in
+    let tests = both (nat_lt last p) (nat_le p numbers.parties) step.0 in
+    let above = ltb-true last p tests.0 in
+    let behind = rising-given numbers (before ++ p ∷ []) p rest out step.1 in (
+      behind.0 ∙ append_assoc before (p ∷ []) rest,
+      (above, behind.1),
+      All-cons (IsParty numbers) p rest (omega (arith, above), leb-true p numbers.parties tests.1) behind.2,
+    )
+
+-- those who are present are parties and rise
+rising-present : (numbers : Numbers) (given present : List ℕ) → rising numbers.parties [] 0 given ≡ Ok present → All (IsParty numbers) present × Rising 0 present
+rising-present numbers given present risen =
+    let all = rising-given numbers [] 0 given present risen in
+    rw all.0 (all.2, all.1)
+
 present-sound : (numbers : Numbers) (master : List ℕ) (words : List (List ℕ)) → 0 < numbers.t → IfOk (present_statement numbers master words) Sound
 unfolding present_statement Sound
 present-sound numbers master words some =
     past_test Sound (leads (codes "present") words) reason.Word _ (λ named.
     past Sound (numbers_behind [] (drop 1 words)) _ (λ given read.
     past Sound (rising numbers.parties [] 0 given) _ (λ present rise.
-    record { modulus = some; circuits = All-nil (IsNamed numbers) })))
+    let those = rising-present numbers given present rise in
+    record { modulus = some; parties = those.0; rising = those.1; named = All-nil (IsNamed numbers); few = omega arith })))
 
 -- ---- circuits
 
@@ -107,15 +142,15 @@ circuit-sound draft words drafted =
     past_test Sound (nat_lt (length draft.circuits) 64) reason.Limit _ (λ room.
     past_test Sound (is_name (word_at words 1)) reason.Name _ (λ name.
     past_test Sound (not (list_any (has_name (word_at words 1)) draft.circuits)) reason.Name _ (λ new.
-    (drafted, record { name = name; count = refl; values = All-nil (IsPoly draft.frame.t draft.frame.n); few = omega arith; stand = refl })))))
+    (drafted, record { name = name; count = refl; values = All-nil (IsPoly draft.frame.t draft.frame.n); few = omega arith; stand = refl }, ltb-true (length draft.circuits) 64 room)))))
 
 -- a party's number is one that may own an input
 party-known : (numbers : Numbers) (p : ℕ) → IfOk (party numbers p) (λ owner. (nat_le 1 owner && nat_le owner numbers.parties) ≡ true)
 party-known numbers p = chosen (λ owner. (nat_le 1 owner && nat_le owner numbers.parties) ≡ true) (nat_le 1 p && nat_le p numbers.parties) p reason.Party (λ is. is)
 
-input-sound : (draft : Draft) (begun : OpenCircuit) (words : List (List ℕ)) → IsDrafted draft → IsBegun draft.frame begun → IfOk (input_statement draft begun words) Sound
+input-sound : (draft : Draft) (begun : OpenCircuit) (words : List (List ℕ)) → IsDrafted draft → IsBegun draft.frame begun → length draft.circuits < 64 → IfOk (input_statement draft begun words) Sound
 unfolding input_statement Sound may_stand
-input-sound draft begun words d b =
+input-sound draft begun words d b free =
     past_test Sound (nat_le 3 (length words)) reason.Word _ (λ enough.
     past Sound (number_at words 1) _ (λ p read.
     past Sound (numbers_behind [] (drop 2 words)) _ (λ coeffs spelled.
@@ -123,7 +158,7 @@ input-sound draft begun words d b =
     past_known (λ owner. (nat_le 1 owner && nat_le owner draft.frame.parties) ≡ true) Sound (party draft.frame p) _ (party-known draft.frame p) (λ owner is.
     past_known (IsPoly draft.frame.t draft.frame.n) Sound (plain draft.frame coeffs) _ (plain-fits draft.frame coeffs d.modulus) (λ value fits.
     let space = ltb-true (length begun.nodes) 256 (both (has_room begun) (nat_lt draft.inputs 1024) room).0 in
-    (record { modulus = d.modulus; circuits = d.circuits }, input-begun draft.frame begun owner value b space is fits)))))))
+    (d, input-begun draft.frame begun owner value b space is fits, free)))))))
 
 -- the same tests, bracketed the other way
 turn_stands : (odd least most earlier : Bool) → ((odd && least && most) && earlier) ≡ true → (odd && least && most && earlier) ≡ true
@@ -132,9 +167,9 @@ turn_stands true true false earlier e = e
 turn_stands true false most earlier e = e
 turn_stands false least most earlier e = e
 
-rot-sound : (draft : Draft) (begun : OpenCircuit) (words : List (List ℕ)) → IsDrafted draft → IsBegun draft.frame begun → IfOk (rot_statement draft begun words) Sound
+rot-sound : (draft : Draft) (begun : OpenCircuit) (words : List (List ℕ)) → IsDrafted draft → IsBegun draft.frame begun → length draft.circuits < 64 → IfOk (rot_statement draft begun words) Sound
 unfolding rot_statement Sound owners may_stand
-rot-sound draft begun words d b =
+rot-sound draft begun words d b free =
     past_test Sound (length words == 3) reason.Word _ (λ count.
     past Sound (number_at words 1) _ (λ g read.
     past Sound (number_at words 2) _ (λ of read_too.
@@ -142,7 +177,7 @@ rot-sound draft begun words d b =
     past_test Sound (is_turn draft.frame g && is_earlier begun of) reason.Node _ (λ turn.
     let space = ltb-true (length begun.nodes) 256 (both (has_room begun) (may_turn draft g) room).0 in
     let turns : stands_behind draft.frame begun (node.Rot g of) ≡ true = turn_stands (g % 2 == 1) (nat_le 3 g) (nat_lt g (2 * draft.frame.n)) (is_earlier begun of) turn in
-    (record { modulus = d.modulus; circuits = d.circuits }, other-begun draft.frame begun (node.Rot g of) b (record { no_owner = refl; room = space; stands = turns })))))))
+    (d, other-begun draft.frame begun (node.Rot g of) b (record { no_owner = refl; room = space; stands = turns }), free))))))
 
 -- the operands of a node, which are earlier ones
 abbrev Known : OpenCircuit → ℕ × ℕ → Type 0
@@ -195,26 +230,29 @@ is-none : (o : Option ℕ) → is_none o ≡ true → o ≡ None
 is-none None e = refl
 is-none (Some x) e = cc
 
-end-sound : (draft : Draft) (begun : OpenCircuit) (words : List (List ℕ)) → IsDrafted draft → IsBegun draft.frame begun → IfOk (circuit_end draft begun words) Sound
+end-sound : (draft : Draft) (begun : OpenCircuit) (words : List (List ℕ)) → IsDrafted draft → IsBegun draft.frame begun → length draft.circuits < 64 → IfOk (circuit_end draft begun words) Sound
 unfolding circuit_end Sound
-end-sound draft begun words d b =
+end-sound draft begun words d b free =
     past_test Sound (length words == 1) reason.Word _ (λ count.
     past_test Sound (is_circuit draft.frame begun.nodes) reason.Node _ (λ rules.
     let last : Named = record { name = begun.name; nodes = begun.nodes; values = begun.values } in
     let named : IsNamed draft.frame last = record { name = b.name; rules = is-none _ rules; count = b.count; values = b.values } in
     record {
       modulus = d.modulus;
-      circuits = All-append (IsNamed draft.frame) draft.circuits (last ∷ []) d.circuits (All-cons (IsNamed draft.frame) last [] named (All-nil (IsNamed draft.frame)));
+      parties = d.parties;
+      rising = d.rising;
+      named = All-append (IsNamed draft.frame) draft.circuits (last ∷ []) d.named (All-cons (IsNamed draft.frame) last [] named (All-nil (IsNamed draft.frame)));
+      few = omega (arith, free, length-append draft.circuits (last ∷ []));
     }))
 
-in-circuit-sound : (draft : Draft) (begun : OpenCircuit) (words : List (List ℕ)) → IsDrafted draft → IsBegun draft.frame begun → IfOk (in_circuit draft begun words) Sound
+in-circuit-sound : (draft : Draft) (begun : OpenCircuit) (words : List (List ℕ)) → IsDrafted draft → IsBegun draft.frame begun → length draft.circuits < 64 → IfOk (in_circuit draft begun words) Sound
 unfolding in_circuit Sound
-in-circuit-sound draft begun words d b =
-    either Sound (leads (codes "input") words) _ _ (input-sound draft begun words d b)
-    (either Sound (leads (codes "rot") words) _ _ (rot-sound draft begun words d b)
-    (either Sound (leads (codes "end") words) _ _ (end-sound draft begun words d b)
+in-circuit-sound draft begun words d b free =
+    either Sound (leads (codes "input") words) _ _ (input-sound draft begun words d b free)
+    (either Sound (leads (codes "rot") words) _ _ (rot-sound draft begun words d b free)
+    (either Sound (leads (codes "end") words) _ _ (end-sound draft begun words d b free)
     (past_known (IsOther draft.frame begun) Sound (other_node draft begun words) _ (other-known draft begun words d) (λ added other.
-    (d, other-begun draft.frame begun added b other)))))
+    (d, other-begun draft.frame begun added b other, free)))))
 
 -- ---- lanes, and the end
 
@@ -225,8 +263,8 @@ lane-sound draft words d = past_test Sound (length words == 1) reason.Word _ (λ
 in-lane-sound : (draft : Draft) (lane : List Line) (words : List (List ℕ)) → IsDrafted draft → IfOk (in_lane draft lane words) Sound
 unfolding in_lane lane_end Sound
 in-lane-sound draft lane words d =
-    either Sound (leads (codes "end") words) _ _ (past_test Sound (length words == 1) reason.Word _ (λ count. record { modulus = d.modulus; circuits = d.circuits }))
-    (past Sound (lane_line draft words) _ (λ said read. record { modulus = d.modulus; circuits = d.circuits }))
+    either Sound (leads (codes "end") words) _ _ (past_test Sound (length words == 1) reason.Word _ (λ count. d))
+    (past Sound (lane_line draft words) _ (λ said read. d))
 
 workers-sound : (draft : Draft) (words : List (List ℕ)) → IsDrafted draft → IfOk (workers_statement draft words) Sound
 unfolding workers_statement Sound
@@ -234,7 +272,7 @@ workers-sound draft words d =
     past_test Sound (length words == 3) reason.Word _ (λ count.
     past Sound (number_at words 1) _ (λ workers read.
     past Sound (number_at words 2) _ (λ jobs read_too.
-    past_test Sound (nat_le workers 8 && nat_le jobs 256) reason.Limit _ (λ few. record { modulus = d.modulus; circuits = d.circuits }))))
+    past_test Sound (nat_le workers 8 && nat_le jobs 256) reason.Limit _ (λ few. d))))
 
 done-sound : (draft : Draft) (words : List (List ℕ)) → IsDrafted draft → IfOk (done_statement draft words) Sound
 unfolding done_statement Sound
@@ -259,7 +297,7 @@ statement-sound place.Versioned words s = params-sound words
 statement-sound (place.Measured numbers) words s = seed-sound numbers words s
 statement-sound (place.Seeded numbers master) words s = present-sound numbers master words s
 statement-sound (place.Circuits draft) words s = between-circuits-sound draft words s
-statement-sound (place.InCircuit draft begun) words s = in-circuit-sound draft begun words s.0 s.1
+statement-sound (place.InCircuit draft begun) words s = in-circuit-sound draft begun words s.0 s.1 s.2
 statement-sound (place.Lanes draft) words s = between-lanes-sound draft words s
 statement-sound (place.InLane draft lane) words s = in-lane-sound draft lane words s
 statement-sound (place.Closing draft) words s = done-sound draft words s
@@ -269,32 +307,39 @@ line-sound : (at : Place) (line : List ℕ) → Sound at → IfOk (after_line at
 unfolding after_line spoken
 line-sound at line s = either Sound (all_plain line) _ _ (either Sound (is_skipped (words line)) _ _ s (statement-sound at (words line) s)) tt
 
-ended-named : (at : Place) (n : ℕ) → Sound at → IfOk (ended at n) AreNamed
-unfolding ended Sound
-ended-named place.Start n s = tt
-ended-named place.Versioned n s = tt
-ended-named (place.Measured numbers) n s = tt
-ended-named (place.Seeded numbers master) n s = tt
-ended-named (place.Circuits draft) n s = tt
-ended-named (place.InCircuit draft begun) n s = tt
-ended-named (place.Lanes draft) n s = tt
-ended-named (place.InLane draft lane) n s = tt
-ended-named (place.Closing draft) n s = tt
-ended-named (place.Finished draft) n s = s.circuits
+-- what a script keeps
+pub record IsSound (script : Asked) : Type 0 where
+  pub named : AreNamed script
+  pub present : ArePresent script
+  pub few : length script.circuits ≤ 64
 
-line-past : (n : ℕ) (step : Result Place Reason) (rest : Place → Result Asked Refusal) → IfOk step Sound → ((next : Place) → Sound next → IfOk (rest next) AreNamed) → IfOk (past_line n step rest) AreNamed
+ended-sound : (at : Place) (n : ℕ) → Sound at → IfOk (ended at n) IsSound
+unfolding ended Sound
+ended-sound place.Start n s = tt
+ended-sound place.Versioned n s = tt
+ended-sound (place.Measured numbers) n s = tt
+ended-sound (place.Seeded numbers master) n s = tt
+ended-sound (place.Circuits draft) n s = tt
+ended-sound (place.InCircuit draft begun) n s = tt
+ended-sound (place.Lanes draft) n s = tt
+ended-sound (place.InLane draft lane) n s = tt
+ended-sound (place.Closing draft) n s = tt
+ended-sound (place.Finished draft) n s =
+    record { named = s.named; present = record { parties = s.parties; rising = s.rising }; few = s.few }
+
+line-past : (n : ℕ) (step : Result Place Reason) (rest : Place → Result Asked Refusal) → IfOk step Sound → ((next : Place) → Sound next → IfOk (rest next) IsSound) → IfOk (past_line n step rest) IsSound
 line-past n (Ok next) rest sound k = k next sound
 line-past n (Err r) rest sound k = tt
 
-read-named : (at : Place) (n : ℕ) (ls : List (List ℕ)) → Sound at → IfOk (read_from at n ls) AreNamed
+read-sound : (at : Place) (n : ℕ) (ls : List (List ℕ)) → Sound at → IfOk (read_from at n ls) IsSound
 unfolding read_from
-read-named at n [] s = ended-named at n s
-read-named at n (line ∷ rest) s = line-past n (after_line at line) (λ next. read_from next (n + 1) rest) (line-sound at line s) (λ next sound. read-named next (n + 1) rest sound)
+read-sound at n [] s = ended-sound at n s
+read-sound at n (line ∷ rest) s = line-past n (after_line at line) (λ next. read_from next (n + 1) rest) (line-sound at line s) (λ next sound. read-sound next (n + 1) rest sound)
 
 at-start : Sound place.Start
 unfolding Sound
 at-start = tt
 
--- the circuits of a script that these lines spell
-pub named : (ls : List (List ℕ)) (asked : Asked) → read_from place.Start 1 ls ≡ Ok asked → AreNamed asked
-named ls asked e = IfOk-at_ok AreNamed e (read-named place.Start 1 ls at-start)
+-- the script that these lines spell
+pub sound : (ls : List (List ℕ)) (asked : Asked) → read_from place.Start 1 ls ≡ Ok asked → IsSound asked
+sound ls asked e = IfOk-at_ok IsSound e (read-sound place.Start 1 ls at-start)

@@ -1,5 +1,5 @@
 -- The statements of circuits.
-use Rattle.std.specs.Prelude.{ℕ, ◌+◌, ◌*◌, ◌%◌, ◌==◌, ◌&&◌, ◌||◌, nat_lt, nat_le, Bool, false, not, if◌then◌else◌, List, [], ◌∷◌, ◌++◌, length, drop, codes, is_none, Result, Ok, Err}
+use Rattle.std.specs.Prelude.{ℕ, ◌+◌, ◌-◌, ◌*◌, ◌%◌, ◌==◌, ◌&&◌, ◌||◌, nat_lt, nat_le, Bool, false, not, if◌then◌else◌, List, [], ◌∷◌, ◌++◌, length, drop, replicate, codes, is_none, Result, Ok, Err}
 use Rattle.std.specs.List.{list_all, list_any}
 use Rattle.std.specs.Str.{bytes_eq}
 use Rattle.circuit_form.specs.declared.node.Node.{Node}
@@ -12,7 +12,6 @@ use Rattle.session_script.specs.declared.place.OpenCircuit.{OpenCircuit}
 use Rattle.session_script.specs.declared.place.Place.{Place}
 use Rattle.session_script.specs.declared.place.Place.TheVariants as place
 use Rattle.session_script.specs.Words.{is_digit}
-use Rattle.session_script.specs.Form.{filled}
 use Rattle.session_script.specs.Lines.{word_at, leads}
 use Rattle.session_script.specs.Checks.{◌>>=◌, unless, number_at, numbers_behind, party}
 use Rattle.session_script.specs.Asked.{Numbers, Named}
@@ -62,6 +61,10 @@ has_room begun = nat_lt (length begun.nodes) 256
 -- whether a node stands already
 abbrev pub is_earlier : OpenCircuit → ℕ → Bool
 is_earlier begun k = nat_lt k (length begun.nodes)
+
+-- a list of numbers, with zeros behind it up to n
+abbrev pub filled : ℕ → List ℕ → List ℕ
+filled n xs = xs ++ replicate (n - length xs) 0
 
 -- the value with these coefficients: at most n, each below t, and zeros behind them up to n
 unfoldable pub plain : Numbers → List ℕ → Result (List ℕ) Reason

@@ -1,4 +1,4 @@
--- What the circuits of each accepted script keep, and who is present in a script of the one form.
+-- What each accepted script keeps: its circuits, and who is present.
 use Rattle.std.specs.Prelude.{◌≡◌, ℕ, ◌<◌, ◌≤◌, List, [], ◌∷◌, true, None, All, length, ⊤}
 use Rattle.ring_spec.specs.Ring.{IsPoly}
 use Rattle.circuit_form.specs.Circuits.{first_fault, owners}

@@ -1,6 +1,4 @@
 pub mod Words
-pub mod Form
-pub mod Reading
 pub mod Lines
 pub mod Asked
 pub mod Checks

@@ -88,7 +88,7 @@ pub(crate) fn seed_statement(frame: Frame, words: &[&[u8]]) -> Result<Place, Rea
 
 /// The numbers as those of parties, each above the last.
 #[tactic(auto, unfolding(crate::specs::Heads::rising))]
-pub(crate) fn rising(alloc: Global, parties: u32, given: &[u64]) -> Result<Ids, Fault>
+fn rising(alloc: Global, parties: u32, given: &[u64]) -> Result<Ids, Fault>
     ensures { Follows (rising parties [] 0 given.now) result }
 {
     let mut present = Ids::new(alloc);

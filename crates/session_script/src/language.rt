@@ -1,8 +1,8 @@
-ghost use Rattle.std.specs.Prelude.{◌≡◌, ◌+◌, ◌^◌, ◌<◌, length, Ok, IfOk, IfErr};
+ghost use Rattle.std.specs.Prelude.{◌≡◌, ◌+◌, ◌^◌, ◌<◌, ◌≤◌, length, Ok, IfOk, IfErr};
 ghost use Rattle.session_script.specs.Words.{texts};
 ghost use Rattle.session_script.specs.declared.place.Place.TheVariants.{Start};
 ghost use Rattle.session_script.specs.Checks.{Follows};
-ghost use Rattle.session_script.specs.Kept.{AreNamed};
+ghost use Rattle.session_script.specs.Kept.{AreNamed, ArePresent};
 ghost use Rattle.session_script.specs.Scripts.{done_statement, between_lanes, between_circuits, statement, spoken, after_line, ended, read_from, script, asked, IsStopOf};
 
 use crate::checks::{is_statement, unless};
@@ -159,13 +159,16 @@ fn read_lines(alloc: Global, lines: &[&[u8]]) -> Result<Script, ScriptStop>
 /// the first reason in the order of `Reason`.
 ///
 /// No line is copied, and each byte is looked at a bounded number of times. `ScriptStop::NoMemory`
-/// may come for any text. The circuits of a script keep the rules of circuits for its parameters, and
-/// have one value of n coefficients below t for each input.
+/// may come for any text. The circuits of a script, at most 64, keep the rules of circuits for its
+/// parameters, and have one value of n coefficients below t for each input. Those who are present are
+/// parties, each above the last.
 #[tactic(auto, unfolding(crate::specs::Scripts::script))]
 pub fn read_script(alloc: Global, bytes: &[u8]) -> Result<Script, ScriptStop>
     requires short { length bytes.now + 1 < 2 ^ 32 }
     ensures script { IfOk result (λ s. script bytes.now ≡ Ok (asked s)) }
     ensures circuits { IfOk result (λ s. AreNamed (asked s)) }
+    ensures present { IfOk result (λ s. ArePresent (asked s)) }
+    ensures few { IfOk result (λ s. length (asked s).circuits ≤ 64) }
     ensures refusal { IfErr result (IsStopOf (script bytes.now)) }
 {
     let lines = lines(alloc, bytes)?;
