@@ -3,3 +3,4 @@ pub mod Keys
 pub mod Inputs
 pub mod Decryptions
 pub mod Answers
+pub mod Belongs

@@ -3,3 +3,4 @@ pub mod Multiples
 pub mod Nodes
 pub mod Walks
 pub mod Outputs
+pub mod Within

@@ -13,3 +13,4 @@ pub mod Counted
 pub mod Answered
 pub mod Deliveries
 pub mod Beginnings
+pub mod Constancy

@@ -2,6 +2,8 @@
 ghost use Rattle.session_spec.specs.Laws.{AnswersArePlain, OutputsStay};
 ghost use Rattle.session_spec.specs.Laws.{OpeningIsHonest, JoinsKeepHonest, SharesKeepHonest, InputsKeepHonest, TakesKeepHonest, OutputsKeepHonest, HeldKeysAreKeys, ReadyOnesHaveInputs};
 ghost use Rattle.session_laws.specs.Beginnings.{OpeningStands};
+ghost use Rattle.session_laws.specs.Constancy.{HistoriesLeadOn, InputsStay, IssuedOnesStay, KeyStays, ReadyOnesStay};
+ghost use Rattle.session_laws.specs.Orders.{OrdersAreOne, RowsAreTotals};
 
 /// The store is honest at first, and what the other laws ask for is met.
 pub fn beginnings()
@@ -12,6 +14,23 @@ pub fn beginnings()
 /// The output of a circuit that is begun is the same in every later state.
 pub fn constancy()
     ensures outputs { OutputsStay }
+{}
+
+/// What is defined once is the same in every longer history: the public key that is complete, the encryption of an
+/// input that is given, the inputs and the output of a circuit that is ready, and of an instance that is opened or
+/// complete what its shares are made from and each party's honest share.
+pub fn longer_histories()
+    ensures histories { HistoriesLeadOn }
+    ensures key { KeyStays }
+    ensures inputs { InputsStay }
+    ensures ready { ReadyOnesStay }
+    ensures issued { IssuedOnesStay }
+{}
+
+/// Sums are the totals of the shares row by row, and so the same in whichever order shares are counted.
+pub fn orders()
+    ensures one { OrdersAreOne }
+    ensures totals { RowsAreTotals }
 {}
 
 /// A party that joins, a share, an input and an output as honest parties bring them, and a circuit that is

@@ -1,0 +1,116 @@
+-- What is defined for a circuit or an instance is the same in every longer history.
+use Rattle.std.proofs.Common.{◌≡◌, ◌∙◌, sym, ap, subst, refl, ℕ, ◌-◌, ◌<◌, ◌&&◌, Bool, true, false, inl, inr, List, [], cond, length, get_or, slice_index_or, Some, None, arith}
+use Rattle.std.specs.Prelude.{nat_eq}
+use Rattle.std.specs.List.{slice_get, list_all}
+use Rattle.std.proofs.lemmas.Bool.{and_parts}
+use Rattle.std.proofs.lemmas.Option.{slice_get-get_or, get_or_from_slice_get, slice_get_within}
+use Rattle.ring_spec.specs.Pairs.{Key}
+use Rattle.proto_names.specs.Instances.{instance}
+use Rattle.proto_names.specs.declared.signature.Signature.{Signature}
+use Rattle.proto_names.specs.declared.sets.PartySet.{PartySet}
+use Rattle.proto_names.specs.declared.instance.Instance.{Instance}
+use Rattle.session_rules.specs.States.{State, circuit, is_idle, plan}
+use Rattle.session_rules.specs.Steps.{is_given_input, has_keys, ready}
+use Rattle.session_rules.specs.Facts.{IsSameLater}
+use Rattle.session_rules.proofs.Keeps.{histories_keep}
+use Rattle.session_rules.proofs.Grounds.{histories_ground}
+use Rattle.session_rules.proofs.Runs.{later_ones_follow}
+use Rattle.session_spec.specs.Settings.{Setting, rules, input_count}
+use Rattle.session_spec.specs.Shares.{share_rows}
+use Rattle.session_spec.specs.Outputs.{key_in, input_of, inputs_of, output_of, polys_of, share_of}
+use Rattle.session_laws.specs.Constancy.{HistoriesLeadOn, KeyStays, InputsStay, ReadyOnesStay, IssuedOnesStay}
+use Rattle.session_laws.proofs.Joins.{rules_whole}
+use Rattle.session_laws.proofs.Keys.{key_stays, given_keyed, keyed, no_key_needed, polys_stay}
+
+pub histories_lead_on : HistoriesLeadOn
+histories_lead_on w es more = record {
+  kept = histories_keep (rules w) es;
+  grounded = histories_ground (rules w) es (rules_whole w);
+  kept_later = histories_keep (rules w) _;
+  later = later_ones_follow (rules w) es more;
+}
+
+pub the_key_stays : KeyStays
+the_key_stays w seeds s t y done = key_stays w seeds s t y.kept_later y.later done
+
+pub inputs_stay : InputsStay
+inputs_stay w seeds s t c k y given =
+    ap (λ (z : Key). input_of w seeds z c k) (key_stays w seeds s t y.kept_later y.later (y.grounded.key c k given))
+
+-- ---- a circuit that is ready
+
+-- all its inputs are given
+ready_given : (w : Setting) (s : State) (c : ℕ) → ready (rules w) s c ≡ true → list_all is_given_input (slice_index_or s.given c []) ≡ true
+unfolding ready
+ready_given w s c e =
+    let given = list_all is_given_input (slice_index_or s.given c []) in
+    let both = and_parts (is_idle (circuit s.circuits c) && given) (has_keys s (plan (rules w) c)) e in
+    (and_parts (is_idle (circuit s.circuits c)) given both.0).1
+
+-- one without inputs has the same under every key
+no_inputs : (w : Setting) (seeds : List (List ℕ)) (key other : Key) (c : ℕ) → input_count w c ≡ 0 → inputs_of w seeds key c ≡ inputs_of w seeds other c
+no_inputs w seeds key other c e = rw e refl
+
+pub ready_ones_stay : ReadyOnesStay
+ready_ones_stay w seeds s t c y e = elim (given_keyed w s c y.grounded (ready_given w s c e)) [
+  | inl none ↦ record {
+    inputs = no_inputs w seeds (key_in w seeds s.instances) (key_in w seeds t.instances) c none;
+    output = no_key_needed w seeds (key_in w seeds s.instances) (key_in w seeds t.instances) c none;
+  }
+  | inr done ↦
+      let same = key_stays w seeds s t y.kept_later y.later done in
+      record {
+        inputs = ap (λ (z : Key). inputs_of w seeds z c) same;
+        output = ap (λ (z : Key). output_of w seeds z c) same;
+      }
+]
+
+-- ---- an instance
+
+-- its place in a list; what stands at that place of another list has its number there
+placed : (is : List Instance) (id : ℕ) (i : Instance) → instance is id ≡ Some i → slice_get is (id - 1) ≡ Some i
+unfolding instance
+placed is id i e = at (nat_eq id 0) e
+  where
+    at : (none : Bool) → cond none None (slice_get is (id - 1)) ≡ Some i → slice_get is (id - 1) ≡ Some i
+    at true e = cc
+    at false e = e
+
+numbered_there : (is others : List Instance) (id : ℕ) (i now : Instance) → instance is id ≡ Some i → slice_get others (id - 1) ≡ Some now → instance others id ≡ Some now
+unfolding instance
+numbered_there is others id i now e there = at (nat_eq id 0) e
+  where
+    at : (none : Bool) → cond none None (slice_get is (id - 1)) ≡ Some i → cond none None (slice_get others (id - 1)) ≡ Some now
+    at true e = cc
+    at false e = there
+
+-- the same instance with the same brief has the same shares
+same_shares : (w : Setting) (seeds : List (List ℕ)) (key other : Key) (i now : Instance) (j : ℕ) → IsSameLater i now → polys_of w seeds key i.signature ≡ polys_of w seeds other now.signature
+    → share_of w seeds key i j ≡ share_of w seeds other now j
+unfolding share_of
+same_shares w seeds key other i now j same polys =
+    let told = polys_of w seeds other now.signature in
+    ap (λ (z : List (List ℕ)). share_rows w seeds i.signature i.id i.set.bits z j) polys
+    ∙ ap (λ (z : Signature). share_rows w seeds z i.id i.set.bits told j) (sym same.signature)
+    ∙ ap (λ (z : ℕ). share_rows w seeds now.signature z i.set.bits told j) (sym same.id)
+    ∙ ap (λ (z : PartySet). share_rows w seeds now.signature now.id z.bits told j) (sym same.set)
+
+pub issued_ones_stay : IssuedOnesStay
+issued_ones_stay w seeds s t id i y issued alive =
+    let place = id - 1 in
+    let here = placed s.instances id i issued in
+    let below : place < length s.instances = slice_get_within s.instances place i here in
+    let at = get_or_from_slice_get s.instances place i i here in
+    let longer = y.later.issued in
+    let now = get_or t.instances place i in
+    let same : IsSameLater i now = subst (λ (z : Instance). IsSameLater z now) at (y.later.same place i below) in
+    let there : slice_get t.instances place ≡ Some now = slice_get-get_or t.instances place i (omega arith) in
+    let polys = polys_stay w seeds s t i y.kept (keyed w s y.grounded) y.kept_later y.later (place, below, at) alive
+    ∙ ap (λ (z : Signature). polys_of w seeds (key_in w seeds t.instances) z) (sym same.signature) in (
+      now,
+      numbered_there s.instances t.instances id i now issued there,
+      record {
+        polys = polys;
+        shares = λ j. same_shares w seeds (key_in w seeds s.instances) (key_in w seeds t.instances) i now j same polys;
+      },
+    )
