@@ -2,9 +2,9 @@
 //!
 //! A [`Source`] gives bytes and a [`Sink`] takes them, in the manner of std's `Read` and `Write`,
 //! but with one plain answer for every failure, and with a count of failures that contracts see.
-//! So a caller may rely on this: a fault is answered only where the object that was called counted
+//! So a caller may rely on this: a fault is answered exactly where the object that was called counted
 //! one in that very call, and a failed call moves no byte. [`read_all`] and [`write_all`] are exact
-//! about which bytes went over, also where they stop midway.
+//! about which bytes went over, also where they stop midway, and answer no failure by another cause.
 //!
 //! A source or sink over memory tells its bytes, and those over std's traits tell none: what a file
 //! or a terminal gives and takes is left to the system, and nothing is claimed of it.

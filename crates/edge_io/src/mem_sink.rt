@@ -1,5 +1,5 @@
 //! A sink over memory, with room for so many bytes, whose writes fail where they are told to.
-ghost use Rattle.std.specs.Prelude.{◌≡◌, ◌↔◌, ℕ, ◌<◌, ◌≤◌, [], List, Some, length, Contains, IsErr, is_err, if◌then◌else◌, IfOk, OnErr, ◌⊎◌};
+ghost use Rattle.std.specs.Prelude.{◌≡◌, ◌↔◌, ℕ, ◌<◌, ◌≤◌, [], List, Some, length, Contains, IsErr, is_err, if◌then◌else◌, IfOk, OnOk, OnErr, ◌⊎◌};
 ghost use Rattle.std.specs.Io.{WritesAtMost};
 ghost use Rattle.std.specs.Io.KnownBytes.{WriteAppends};
 ghost use Rattle.edge_io.specs.Faults.{raised, HasFault};
@@ -76,6 +76,7 @@ impl Sink for MemSink {
         ensures moves { IfOk result (λ count. 0 < length piece.now → 0 < count) }
         ensures bytes { WriteAppends (Some self.old.bytes) (Some self.new.bytes) result piece.now }
         ensures failed { OnErr result (HasFault self.old.faults self.new.faults) }
+        ensures none_hidden { OnOk result (self.new.faults ≡ self.old.faults) }
         ensures never_falls { self.old.faults ≤ self.new.faults }
 
         // It fails exactly at the numbers that were given and where there is no room, and each

@@ -1,5 +1,5 @@
 //! A source over memory, whose reads fail where they are told to.
-ghost use Rattle.std.specs.Prelude.{◌≡◌, ◌↔◌, ℕ, ◌≤◌, List, Some, Contains, IsErr, is_err, if◌then◌else◌, OnErr};
+ghost use Rattle.std.specs.Prelude.{◌≡◌, ◌↔◌, ℕ, ◌≤◌, List, Some, Contains, IsErr, is_err, if◌then◌else◌, OnOk, OnErr};
 ghost use Rattle.std.specs.Io.{ReadsAtMost};
 ghost use Rattle.std.specs.Io.KnownBytes.{ReadConsumes};
 ghost use Rattle.edge_io.specs.Faults.{raised, HasFault};
@@ -61,6 +61,7 @@ impl Source for MemSource {
         ensures within { ReadsAtMost result buf.new }
         ensures bytes { ReadConsumes (Some self.old.bytes) (Some self.new.bytes) result buf.new }
         ensures failed { OnErr result (HasFault self.old.faults self.new.faults) }
+        ensures none_hidden { OnOk result (self.new.faults ≡ self.old.faults) }
         ensures never_falls { self.old.faults ≤ self.new.faults }
 
         // It fails exactly at the numbers that were given, and each failure is counted, once.

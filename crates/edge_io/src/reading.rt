@@ -1,9 +1,9 @@
 //! Reads a source to its end.
-ghost use Rattle.std.specs.Prelude.{◌≡◌, ◌↔◌, ℕ, ◌+◌, ◌<◌, ◌≤◌, ◌++◌, min, length, take, vec_len, vec_capacity, IfOk, IfErr, IfSome, OnErr};
+ghost use Rattle.std.specs.Prelude.{◌≡◌, ◌↔◌, ℕ, ◌+◌, ◌<◌, ◌≤◌, ◌++◌, min, length, take, vec_len, vec_capacity, IfOk, IfErr, IfSome, OnOk, OnErr};
 ghost use Rattle.std.specs.Io.KnownBytes.{Consumes, IsAtEnd, Keeps};
 ghost use Rattle.edge_io.specs.Faults.{HasFault};
 ghost use Rattle.edge_io.specs.Taking.{TakesAll, TakesMoreThan};
-ghost use Rattle.edge_io.specs.Reading.{StopsReading};
+ghost use Rattle.edge_io.specs.Reading.{StopsReading, TellsFaults};
 
 use crate::source::{Failed, Source};
 use std::alloc::{AllocError, Global};
@@ -65,6 +65,7 @@ fn append_piece<S: Source>(
     ensures kept { OnErr result (Keeps (S.left source.old) (S.left source.new)) }
     ensures same { OnErr result (bytes.new.items ≡ bytes.old.items) }
     ensures failed { OnErr result (HasFault (S.faults source.old) (S.faults source.new)) }
+    ensures none_hidden { OnOk result (S.faults source.new ≡ S.faults source.old) }
     ensures never_falls { S.faults source.old ≤ S.faults source.new }
 {
     let count = source.read(buffer)?;
@@ -83,6 +84,8 @@ pub fn read_all<S: Source>(alloc: Global, source: &mut S, limit: u64) -> Result<
     ensures too_long { IfSome (S.left source.old)
         (λ all. (result ≡ Err ReadStop.TooLong) ↔ TakesMoreThan all (S.left source.new) limit) }
     ensures fault { result ≡ Err ReadStop.ReadFault → HasFault (S.faults source.old) (S.faults source.new) }
+    ensures no_fault { OnOk result (S.faults source.new ≡ S.faults source.old) }
+    ensures told { IfErr result (TellsFaults (S.faults source.old) (S.faults source.new)) }
     ensures never_falls { S.faults source.old ≤ S.faults source.new }
 {
     let mut buffer = vec![in alloc; 0u8; piece_len(limit)]?;

@@ -1,5 +1,5 @@
 //! What gives bytes.
-ghost use Rattle.std.specs.Prelude.{ℕ, List, Option, ◌≤◌, OnErr};
+ghost use Rattle.std.specs.Prelude.{◌≡◌, ℕ, List, Option, ◌≤◌, OnOk, OnErr};
 ghost use Rattle.std.specs.Io.{ReadsAtMost};
 ghost use Rattle.std.specs.Io.KnownBytes.{ReadConsumes};
 ghost use Rattle.edge_io.specs.Faults.{HasFault};
@@ -14,7 +14,7 @@ pub struct Failed;
 /// Gives bytes, one after the other, until they end.
 ///
 /// Contracts see two things of it: the bytes that are left, where it tells them, and how many of
-/// its calls have failed.
+/// its calls have failed. A failure is counted only by the call that answers it.
 pub trait Source {
     // The bytes that are left, or `None` where the source doesn't tell.
     ghost left: { Self → Option (List ℕ) };
@@ -28,5 +28,6 @@ pub trait Source {
         ensures within { ReadsAtMost result buf.new }
         ensures bytes { ReadConsumes (left self.old) (left self.new) result buf.new }
         ensures failed { OnErr result (HasFault (faults self.old) (faults self.new)) }
+        ensures none_hidden { OnOk result (faults self.new ≡ faults self.old) }
         ensures never_falls { faults self.old ≤ faults self.new };
 }

@@ -1,5 +1,5 @@
 //! A sink over a writer of std.
-ghost use Rattle.std.specs.Prelude.{◌≡◌, ◌<◌, ◌≤◌, None, length, IfOk, OnErr, is_err, if◌then◌else◌};
+ghost use Rattle.std.specs.Prelude.{◌≡◌, ◌<◌, ◌≤◌, None, length, IfOk, OnOk, OnErr, is_err, if◌then◌else◌};
 ghost use Rattle.std.specs.Io.{WritesAtMost};
 ghost use Rattle.std.specs.Io.KnownBytes.{WriteAppends};
 ghost use Rattle.edge_io.specs.Faults.{raised, HasFault};
@@ -50,6 +50,7 @@ impl<W: Write> Sink for StdSink<W> {
         ensures moves { IfOk result (λ count. 0 < length piece.now → 0 < count) }
         ensures passed_on { WriteAppends (W.contents (sink_writer self.old)) (W.contents (sink_writer self.new)) result piece.now }
         ensures failed { OnErr result (HasFault (sink_faults self.old) (sink_faults self.new)) }
+        ensures none_hidden { OnOk result (sink_faults self.new ≡ sink_faults self.old) }
         ensures never_falls { sink_faults self.old ≤ sink_faults self.new }
         ensures counted { sink_faults self.new ≡ (if is_err result then raised (sink_faults self.old) else sink_faults self.old) }
     {

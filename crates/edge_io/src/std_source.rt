@@ -1,5 +1,5 @@
 //! A source over a reader of std.
-ghost use Rattle.std.specs.Prelude.{◌≡◌, ◌≤◌, None, OnErr, is_err, if◌then◌else◌};
+ghost use Rattle.std.specs.Prelude.{◌≡◌, ◌≤◌, None, OnOk, OnErr, is_err, if◌then◌else◌};
 ghost use Rattle.std.specs.Io.{ReadsAtMost};
 ghost use Rattle.std.specs.Io.KnownBytes.{ReadConsumes};
 ghost use Rattle.edge_io.specs.Faults.{raised, HasFault};
@@ -40,6 +40,7 @@ impl<R: Read> Source for StdSource<R> {
         ensures within { ReadsAtMost result buf.new }
         ensures passed_on { ReadConsumes (R.remaining (source_reader self.old)) (R.remaining (source_reader self.new)) result buf.new }
         ensures failed { OnErr result (HasFault (source_faults self.old) (source_faults self.new)) }
+        ensures none_hidden { OnOk result (source_faults self.new ≡ source_faults self.old) }
         ensures never_falls { source_faults self.old ≤ source_faults self.new }
         ensures counted { source_faults self.new ≡ (if is_err result then raised (source_faults self.old) else source_faults self.old) }
     {

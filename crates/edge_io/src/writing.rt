@@ -19,6 +19,7 @@ pub fn write_all<K: Sink>(sink: &mut K, bytes: &[u8]) -> Result<(), WriteFault>
     ensures part { IfErr result (λ fault. Appends (K.taken sink.old) (K.taken sink.new) (take fault.written bytes.now)) }
     ensures fewer { IfErr result (λ fault. fault.written < length bytes.now) }
     ensures fault { OnErr result (HasFault (K.faults sink.old) (K.faults sink.new)) }
+    ensures no_fault { OnOk result (K.faults sink.new ≡ K.faults sink.old) }
     ensures never_falls { K.faults sink.old ≤ K.faults sink.new }
 {
     let mut written = 0usize;

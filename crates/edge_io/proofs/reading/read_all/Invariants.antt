@@ -8,7 +8,7 @@ invariant-pieces g l =
     (vec_len l.bytes ≤ l.limit)
     × (vec_len l.buffer ≡ min (l.limit + 1) 65536)
     × Consumes (g.S.Source.left l.fn.source) (g.S.Source.left l.source) l.bytes.items
-    × (g.S.Source.faults l.fn.source ≤ g.S.Source.faults l.source)
+    × (g.S.Source.faults l.source ≡ g.S.Source.faults l.fn.source)
 
 abbrev pub decreases-pieces : goal.decreases-pieces
 decreases-pieces g l = l.limit - vec_len l.bytes

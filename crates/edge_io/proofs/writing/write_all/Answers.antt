@@ -1,5 +1,5 @@
 -- What a write took comes behind what was taken before.
-use Rattle.std.proofs.Common.{◌≡◌, ℕ, ◌+◌, ◌-◌, List, ◌++◌, length, take, drop, arith}
+use Rattle.std.proofs.Common.{◌≡◌, ℕ, ◌+◌, ◌-◌, List, ◌++◌, length, take, drop, arith, ◌∙◌}
 use Rattle.std.proofs.Math.Seq.{take-add}
 use Rattle.std.proofs.lemmas.List.{take_rest}
 use Rattle.std.proofs.lemmas.Grind.{common_steps}
@@ -13,4 +13,4 @@ take-piece i n xs = rw (take_rest xs i) (take-add i n xs)
 pub pieces-preserved : goal.pieces-preserved
 pieces-preserved g c =
     let more = Appends-trans _ _ _ _ _ c.pieces.invariant.1 c.in-Ok.ensures.bytes in
-    (grind (arith, common_steps), rw take-piece more, omega arith)
+    (grind (arith, common_steps), rw take-piece more, c.in-Ok.ensures.none_hidden ∙ c.pieces.invariant.2)
