@@ -1,4 +1,4 @@
-ghost use Rattle.std.specs.Prelude.{◌≡◌, ◌↔◌, ◌≤◌, [], ◌∷◌, ◌++◌, true, length, IfOk, IfSome, OnOk, OnErr, Err, Some, None};
+ghost use Rattle.std.specs.Prelude.{◌≡◌, ◌↔◌, ◌≤◌, ◌+◌, [], ◌∷◌, ◌++◌, true, length, IfOk, IfSome, OnOk, OnErr, Err, Some, None};
 ghost use Rattle.bfv_core.specs.Fits.{KeyFits};
 ghost use Rattle.proto_names.specs.Instances.{instance};
 ghost use Rattle.proto_names.specs.declared.instance.Instance.{Instance};
@@ -36,6 +36,8 @@ impl<R: Roll> Session<R> {
         ensures spent { (result ≡ Err Spent) ↔ (length self.old.log.items ≡ self.old.max_calls) }
         ensures unchanged { OnErr result (IsUnchanged self.old.standing self.new.standing) }
         ensures nothing_logged { OnErr result (self.new.log.items ≡ self.old.log.items) }
+        ensures room { spare self.old.log ≤ spare self.new.log + 1 }
+        ensures room_stays { OnErr result (spare self.old.log ≤ spare self.new.log) }
     {
         self.begin()?;
         let listing = self.standing.pending(alloc, p)?;
@@ -65,6 +67,8 @@ impl<R: Roll> Session<R> {
         ensures spent { (result ≡ Err Spent) ↔ (length self.old.log.items ≡ self.old.max_calls) }
         ensures unchanged { OnErr result (IsUnchanged self.old.standing self.new.standing) }
         ensures nothing_logged { OnErr result (self.new.log.items ≡ self.old.log.items) }
+        ensures room { spare self.old.log ≤ spare self.new.log + 1 }
+        ensures room_stays { OnErr result (spare self.old.log ≤ spare self.new.log) }
     {
         self.begin()?;
         let briefing = self.standing.brief(id)?;

@@ -1,4 +1,4 @@
-ghost use Rattle.std.specs.Prelude.{◌≡◌, ◌↔◌, ◌≤◌, [], ◌∷◌, ◌++◌, true, length, IfOk, OnOk, OnErr, Err};
+ghost use Rattle.std.specs.Prelude.{◌≡◌, ◌↔◌, ◌≤◌, ◌+◌, [], ◌∷◌, ◌++◌, true, length, IfOk, OnOk, OnErr, Err};
 ghost use Rattle.bfv_core.specs.Fits.{CipherFits};
 ghost use Rattle.party_roll.specs.Seeds.{seeds_told};
 ghost use Rattle.session_rules.specs.declared.call.Call.TheVariants as call;
@@ -39,6 +39,8 @@ impl<R: Roll> Session<R> {
         ensures spent { (result ≡ Err Spent) ↔ (length self.old.log.items ≡ self.old.max_calls) }
         ensures unchanged { OnErr result (IsUnchanged self.old.standing self.new.standing) }
         ensures nothing_logged { OnErr result (self.new.log.items ≡ self.old.log.items) }
+        ensures room { spare self.old.log ≤ spare self.new.log + 1 }
+        ensures room_stays { OnErr result (spare self.old.log ≤ spare self.new.log) }
         ensures free { 1 ≤ spare self.old.log → result ≡ Err NoMemory → (said self.old.standing self.old.log.items caller (call.Input circuit input)).0 ≡ reply.Given }
     {
         self.begin()?;

@@ -1,4 +1,4 @@
-ghost use Rattle.std.specs.Prelude.{◌≡◌, ◌↔◌, ◌≤◌, [], ◌∷◌, ◌++◌, length, IfOk, OnOk, OnErr, Err};
+ghost use Rattle.std.specs.Prelude.{◌≡◌, ◌↔◌, ◌≤◌, ◌+◌, [], ◌∷◌, ◌++◌, length, IfOk, OnOk, OnErr, Err};
 ghost use Rattle.session_rules.specs.declared.call.Call.TheVariants as call;
 ghost use Rattle.session_rules.specs.declared.reply.Reply.TheVariants as reply;
 ghost use Rattle.session_state.specs.Standings.{state, store, store_joined, IsUnchanged};
@@ -26,6 +26,8 @@ impl<R: Roll> Session<R> {
         ensures spent { (result ≡ Err Spent) ↔ (length self.old.log.items ≡ self.old.max_calls) }
         ensures unchanged { OnErr result (IsUnchanged self.old.standing self.new.standing) }
         ensures nothing_logged { OnErr result (self.new.log.items ≡ self.old.log.items) }
+        ensures room { spare self.old.log ≤ spare self.new.log + 1 }
+        ensures room_stays { OnErr result (spare self.old.log ≤ spare self.new.log) }
         ensures free { 1 ≤ spare self.old.log → result ≡ Err NoMemory → (said self.old.standing self.old.log.items caller (call.Join p)).0 ≡ reply.Joined }
     {
         self.begin()?;

@@ -25,6 +25,3 @@ pub use session::Session;
 pub use session_rules::{Call, CircuitState, Entry, Reply};
 pub use session_state::{Briefing, Circuits, Listing, Offered, Taking};
 pub use stop::Stop;
-
-#[cfg(test)]
-mod tests;

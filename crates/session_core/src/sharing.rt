@@ -1,4 +1,4 @@
-ghost use Rattle.std.specs.Prelude.{◌≡◌, ◌↔◌, ◌<◌, ◌≤◌, ◌^◌, [], ◌∷◌, ◌++◌, true, length, All, IfOk, OnOk, OnErr, Err};
+ghost use Rattle.std.specs.Prelude.{◌≡◌, ◌↔◌, ◌<◌, ◌≤◌, ◌+◌, ◌^◌, [], ◌∷◌, ◌++◌, true, length, All, IfOk, OnOk, OnErr, Err};
 ghost use Rattle.ring_spec.specs.Ring.{IsPoly};
 ghost use Rattle.party_roll.specs.Seeds.{seeds_told};
 ghost use Rattle.session_rules.specs.declared.call.Call.TheVariants as call;
@@ -33,6 +33,8 @@ impl<R: Roll> Session<R> {
         ensures spent { (result ≡ Err Spent) ↔ (length self.old.log.items ≡ self.old.max_calls) }
         ensures unchanged { OnErr result (IsUnchanged self.old.standing self.new.standing) }
         ensures nothing_logged { OnErr result (self.new.log.items ≡ self.old.log.items) }
+        ensures room { spare self.old.log ≤ spare self.new.log + 1 }
+        ensures room_stays { OnErr result (spare self.old.log ≤ spare self.new.log) }
         ensures free { 1 ≤ spare self.old.log → result ≡ Err NoMemory → (said self.old.standing self.old.log.items caller (call.Deliver share.now.id share.now.party (length share.now.rows))).0 ≡ reply.Completed }
     {
         self.begin()?;
