@@ -14,7 +14,7 @@ use Rattle.session_rules.specs.declared.fixed.Fixed.{Fixed}
 use Rattle.session_rules.specs.States.{State}
 use Rattle.session_rules.specs.Steps.{step}
 use Rattle.session_rules.specs.Histories.{state_after}
-use Rattle.session_rules.specs.Lanes.{Run, Lists, called, reply_of, briefed, listed, job, shared, shared_all, given_all, sent, worked, worked_off, sent_by_all, round, rounds, is_over, is_settled, settled, joined_all}
+use Rattle.session_rules.specs.Lanes.{Run, called, reply_of, briefed, listed, job, shared, shared_all, given_all, sent, worked, worked_off, sent_by_all, round, rounds, is_over, is_settled, settled, joined_all}
 use Rattle.session_rules.proofs.Runs.{next_state}
 use Rattle.lane_workers.specs.Acting.{run_behind}
 
@@ -160,7 +160,7 @@ one_work f who r c e =
     let t = called f who r call.Take in
     sym (by_some (job (reply_of f who r call.Take)) t (λ z. called f who t (call.Finish z)) c e)
 
-works_next : (n : ℕ) (f : Fixed) (who : ℕ) (r : Run) (c : ℕ) → job (reply_of f who r call.Take) ≡ Some c → worked_off (suc n) f who r ≡ worked_off n f who (worked f who r)
+pub works_next : (n : ℕ) (f : Fixed) (who : ℕ) (r : Run) (c : ℕ) → job (reply_of f who r call.Take) ≡ Some c → worked_off (suc n) f who r ≡ worked_off n f who (worked f who r)
 unfolding worked_off
 works_next n f who r c e =
     let t = called f who r call.Take in

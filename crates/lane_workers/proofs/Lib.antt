@@ -1,4 +1,5 @@
 pub mod Growth
+pub mod Stopping
 pub mod Bringing
 pub mod Owing
 pub mod Present

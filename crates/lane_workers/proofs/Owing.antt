@@ -1,5 +1,5 @@
 -- What a party is told that it owes is its own, and of inputs it is told once there is a key, which stays.
-use Rattle.std.proofs.Common.{◌≡◌, ◌∙◌, sym, ap, subst, refl, ℕ, ◌<◌, Bool, true, false, not, cond, nat_eq, nat_lt, List, [], ◌∷◌, ◌++◌, length, slice_index_or, map, filter, All, Contains, Option, Some, None, arith}
+use Rattle.std.proofs.Common.{◌≡◌, ◌∙◌, sym, ap, refl, ℕ, ◌<◌, Bool, true, false, not, cond, nat_eq, nat_lt, List, [], ◌∷◌, length, slice_index_or, map, filter, All, Contains, Option, Some, None, arith}
 use Rattle.std.specs.Prelude.{if◌then◌else◌}
 use Rattle.std.specs.List.{range_with_len, flat_map}
 use Rattle.std.specs.Option.{option_map}
@@ -12,13 +12,11 @@ use Rattle.proto_names.specs.declared.signature.Signature.TheVariants.{Pk}
 use Rattle.proto_names.specs.declared.instance.Instance.{Instance}
 use Rattle.session_rules.specs.declared.call.Call.TheVariants as call
 use Rattle.session_rules.specs.declared.call.Entry.{Entry}
-use Rattle.session_rules.specs.declared.reply.Reply.{Reply}
 use Rattle.session_rules.specs.declared.reply.Reply.TheVariants as reply
 use Rattle.session_rules.specs.declared.fixed.Fixed.{Fixed}
 use Rattle.session_rules.specs.States.{State, plan, is_admitted, is_given, has_done}
 use Rattle.session_rules.specs.Steps.{step, pending, place, is_input, lacks_input, owed_of, owed_inputs}
 use Rattle.session_rules.specs.Histories.{state_after}
-use Rattle.session_rules.specs.Facts.{Kept, IsLater}
 use Rattle.session_rules.specs.Lanes.{Run, shared_all, listed}
 use Rattle.session_rules.proofs.Contained.{contains_filter_from, range_within, none_from_find}
 use Rattle.session_rules.proofs.Courses.{shares_go}

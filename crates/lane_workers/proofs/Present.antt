@@ -1,5 +1,5 @@
 -- The members of a set that has none above a number are those up to it.
-use Rattle.std.proofs.Common.{◌≡◌, ◌∙◌, sym, ap, refl, ℕ, zero, suc, ◌+◌, ◌≤◌, Bool, true, false, cond, List, [], ◌∷◌, ◌++◌, append-nil, arith}
+use Rattle.std.proofs.Common.{◌≡◌, ◌∙◌, ap, refl, ℕ, zero, suc, ◌+◌, ◌≤◌, Bool, true, false, cond, [], ◌∷◌, ◌++◌, append-nil, arith}
 use Rattle.share_spec.specs.Sets.{has, members_to}
 use Rattle.proto_names.proofs.Members.{members_more}
 

@@ -1,5 +1,5 @@
 -- Those that act in a session, and the run that its log is.
-use Rattle.std.specs.Prelude.{◌≡◌, ℕ, ◌≤◌, Bool, true, List, Option, Some, None, IsSome}
+use Rattle.std.specs.Prelude.{◌≡◌, ℕ, ◌≤◌, Bool, true, List, length, take, Some, None, IsSome}
 use Rattle.std.specs.List.{slice_index_or}
 use Rattle.param_set.specs.declared.params.Params.{Params}
 use Rattle.party_roll.specs.declared.placed.Placed.{Placed}
@@ -15,6 +15,10 @@ use Rattle.session_spec.specs.Settings.{Setting, rules, value_at}
 -- the run behind a history, with nothing in hand
 abbrev pub run_behind : Fixed → List Entry → Run
 run_behind f log = record { state = state_after f log; log = log; hand = None }
+
+-- the second list of entries begins with the first one
+abbrev pub Begins : List Entry → List Entry → Type 0
+Begins start all = take (length start) all ≡ start
 
 -- input k of circuit c is one of an admitted circuit, and a party's
 pub record Owns (w : Setting) (number c k : ℕ) : Type 0 where

@@ -1,4 +1,4 @@
-ghost use Rattle.std.specs.Prelude.{◌≡◌, true, length, map, All, OnOk, Err};
+ghost use Rattle.std.specs.Prelude.{◌≡◌, true, length, map, All, OnOk, OnErr, Err};
 ghost use Rattle.bfv_core.specs.Fits.{KeyFits};
 ghost use Rattle.party_roll.specs.Seeds.{seeds_told};
 ghost use Rattle.session_rules.specs.Lanes.{shared, shared_all, given_all, sent};
@@ -6,7 +6,7 @@ ghost use Rattle.session_spec.specs.Outputs.{key_in};
 ghost use Rattle.session_state.specs.Standings.{setting, rules_of, state};
 ghost use Rattle.session_core.specs.Sessions.{IsSameSetting};
 ghost use Rattle.session_core.specs.declared.stop.Stop.TheVariants.{Spent};
-ghost use Rattle.lane_workers.specs.Acting.{run_behind, CanAct, IsHonestParty, OwnsPlace};
+ghost use Rattle.lane_workers.specs.Acting.{run_behind, Begins, CanAct, IsHonestParty, OwnsPlace};
 
 use mod_ring::{PublicKey, Ring};
 use party_roll::{Party, Roll};
@@ -25,6 +25,8 @@ fn share<R: Roll, P: Party>(
     requires able { CanAct session.old.standing.params (setting session.old.standing) (P.params party.now) (P.number party.now) (P.values party.now) }
     requires told { R.tells session.old.roll ≡ true → IsHonestParty (setting session.old.standing) (seeds_told (R.seed session.old.roll) session.old.standing.params.parties) (P.tells party.now) (P.public party.now) (P.seeds party.now) (P.number party.now) (P.values party.now) }
     ensures run { OnOk result (run_behind (rules_of session.old.standing) session.new.log.items ≡ shared (rules_of session.old.standing) 0 (P.number party.now) (run_behind (rules_of session.old.standing) session.old.log.items) id) }
+    ensures stopped { OnErr result (Begins session.new.log.items (shared (rules_of session.old.standing) 0 (P.number party.now) (run_behind (rules_of session.old.standing) session.old.log.items) id).log) }
+    ensures grows { Begins session.old.log.items session.new.log.items }
     ensures same { IsSameSetting session.old.standing session.new.standing }
     ensures roll { session.new.roll ≡ session.old.roll }
     ensures most { session.new.max_calls ≡ session.old.max_calls }
@@ -53,6 +55,8 @@ fn share_all<R: Roll, P: Party>(
     requires able { CanAct session.old.standing.params (setting session.old.standing) (P.params party.now) (P.number party.now) (P.values party.now) }
     requires told { R.tells session.old.roll ≡ true → IsHonestParty (setting session.old.standing) (seeds_told (R.seed session.old.roll) session.old.standing.params.parties) (P.tells party.now) (P.public party.now) (P.seeds party.now) (P.number party.now) (P.values party.now) }
     ensures run { OnOk result (run_behind (rules_of session.old.standing) session.new.log.items ≡ shared_all (rules_of session.old.standing) 0 (P.number party.now) (run_behind (rules_of session.old.standing) session.old.log.items) ids.now) }
+    ensures stopped { OnErr result (Begins session.new.log.items (shared_all (rules_of session.old.standing) 0 (P.number party.now) (run_behind (rules_of session.old.standing) session.old.log.items) ids.now).log) }
+    ensures grows { Begins session.old.log.items session.new.log.items }
     ensures same { IsSameSetting session.old.standing session.new.standing }
     ensures roll { session.new.roll ≡ session.old.roll }
     ensures most { session.new.max_calls ≡ session.old.max_calls }
@@ -80,6 +84,8 @@ fn give_all<R: Roll, P: Party>(
     requires key { R.tells session.old.roll ≡ true → key.now ≡ key_in (setting session.old.standing) (seeds_told (R.seed session.old.roll) session.old.standing.params.parties) (state session.old.standing).instances }
     requires own { All (OwnsPlace (setting session.old.standing) (P.number party.now)) places.now }
     ensures run { OnOk result (run_behind (rules_of session.old.standing) session.new.log.items ≡ given_all (rules_of session.old.standing) 0 (run_behind (rules_of session.old.standing) session.old.log.items) places.now) }
+    ensures stopped { OnErr result (Begins session.new.log.items (given_all (rules_of session.old.standing) 0 (run_behind (rules_of session.old.standing) session.old.log.items) places.now).log) }
+    ensures grows { Begins session.old.log.items session.new.log.items }
     ensures same { IsSameSetting session.old.standing session.new.standing }
     ensures roll { session.new.roll ≡ session.old.roll }
     ensures most { session.new.max_calls ≡ session.old.max_calls }
@@ -103,6 +109,8 @@ pub(crate) fn send<R: Roll, P: Party>(
     requires able { CanAct session.old.standing.params (setting session.old.standing) (P.params party.now) (P.number party.now) (P.values party.now) }
     requires told { R.tells session.old.roll ≡ true → IsHonestParty (setting session.old.standing) (seeds_told (R.seed session.old.roll) session.old.standing.params.parties) (P.tells party.now) (P.public party.now) (P.seeds party.now) (P.number party.now) (P.values party.now) }
     ensures run { OnOk result (run_behind (rules_of session.old.standing) session.new.log.items ≡ sent (rules_of session.old.standing) 0 (P.number party.now) (run_behind (rules_of session.old.standing) session.old.log.items)) }
+    ensures stopped { OnErr result (Begins session.new.log.items (sent (rules_of session.old.standing) 0 (P.number party.now) (run_behind (rules_of session.old.standing) session.old.log.items)).log) }
+    ensures grows { Begins session.old.log.items session.new.log.items }
     ensures same { IsSameSetting session.old.standing session.new.standing }
     ensures roll { session.new.roll ≡ session.old.roll }
     ensures most { session.new.max_calls ≡ session.old.max_calls }

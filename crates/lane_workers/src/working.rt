@@ -1,10 +1,10 @@
-ghost use Rattle.std.specs.Prelude.{◌≡◌, length, is_some, IfOk, OnOk, Err};
+ghost use Rattle.std.specs.Prelude.{◌≡◌, length, is_some, IfOk, OnOk, OnErr, Err};
 ghost use Rattle.session_rules.specs.declared.call.Call.TheVariants as call;
 ghost use Rattle.session_rules.specs.Lanes.{job, reply_of, worked, worked_off};
 ghost use Rattle.session_state.specs.Standings.{rules_of};
 ghost use Rattle.session_core.specs.Sessions.{IsSameSetting};
 ghost use Rattle.session_core.specs.declared.stop.Stop.TheVariants.{Spent};
-ghost use Rattle.lane_workers.specs.Acting.{run_behind};
+ghost use Rattle.lane_workers.specs.Acting.{run_behind, Begins};
 
 use circuit_runner::evaluate;
 use mod_ring::Ring;
@@ -17,6 +17,8 @@ use std::alloc::Global;
 fn work<R: Roll>(alloc: Global, session: &mut Session<R>, ring: &Ring) -> Result<bool, Stop>
     requires ring { ring.now.params ≡ session.old.standing.params }
     ensures run { OnOk result (run_behind (rules_of session.old.standing) session.new.log.items ≡ worked (rules_of session.old.standing) 0 (run_behind (rules_of session.old.standing) session.old.log.items)) }
+    ensures stopped { OnErr result (Begins session.new.log.items (worked (rules_of session.old.standing) 0 (run_behind (rules_of session.old.standing) session.old.log.items)).log) }
+    ensures grows { Begins session.old.log.items session.new.log.items }
     ensures more { IfOk result (λ more. more ≡ is_some (job (reply_of (rules_of session.old.standing) 0 (run_behind (rules_of session.old.standing) session.old.log.items) call.Take))) }
     ensures same { IsSameSetting session.old.standing session.new.standing }
     ensures roll { session.new.roll ≡ session.old.roll }
@@ -42,6 +44,8 @@ pub(crate) fn work_off<R: Roll>(
 ) -> Result<(), Stop>
     requires ring { ring.now.params ≡ session.old.standing.params }
     ensures run { OnOk result (run_behind (rules_of session.old.standing) session.new.log.items ≡ worked_off (length (rules_of session.old.standing).plans) (rules_of session.old.standing) 0 (run_behind (rules_of session.old.standing) session.old.log.items)) }
+    ensures stopped { OnErr result (Begins session.new.log.items (worked_off (length (rules_of session.old.standing).plans) (rules_of session.old.standing) 0 (run_behind (rules_of session.old.standing) session.old.log.items)).log) }
+    ensures grows { Begins session.old.log.items session.new.log.items }
     ensures same { IsSameSetting session.old.standing session.new.standing }
     ensures roll { session.new.roll ≡ session.old.roll }
     ensures most { session.new.max_calls ≡ session.old.max_calls }

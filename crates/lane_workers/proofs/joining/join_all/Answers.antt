@@ -1,15 +1,17 @@
-use Rattle.std.proofs.Common.{◌≡◌, ◌∙◌, sym, ap, subst, refl, ℕ, ◌≤◌, get_or, arith}
+use Rattle.std.proofs.Common.{◌∙◌, sym, subst, refl, ◌≤◌, get_or, arith}
 use Rattle.std.proofs.lemmas.List.Elements.{All-get_or}
 use Rattle.param_set.specs.declared.params.Params.{Params}
 use Rattle.session_rules.specs.declared.call.Call.TheVariants as call
 use Rattle.session_state.specs.Standings.{rules_of}
-use Rattle.lane_workers.specs.Acting.{run_behind, IsParty}
+use Rattle.lane_workers.specs.Acting.{IsParty}
 use Rattle.lane_workers.proofs.Growth.{behind_same, join_on, join_end}
 use Rattle.lane_workers.proofs.Bringing.{same_then, same_rules}
+use Rattle.session_state.proofs.Joins.{on_err}
+use Rattle.lane_workers.proofs.Stopping.{begins_same, begins_append, begins_more, joins_stop}
 use Rattle.lane_workers.proofs.joining.join_all.Goals as goal
 
 pub parties-init : goal.parties-init
-parties-init g c = record { whole = refl; same = record { setting = refl; params = refl }; roll = refl; most = refl }
+parties-init g c = record { whole = refl; grows = begins_same _ _ refl; same = record { setting = refl; params = refl }; roll = refl; most = refl }
 
 pub join-requires-clause-last : goal.join-requires-clause-last
 join-requires-clause-last g c κs within =
@@ -28,6 +30,7 @@ parties-preserved g c =
     let r = behind_same f (rules_of c.parties.session.standing) c.parties.session.log.items c.join.new.self.log.items 0 (call.Join (get_or c.args.present.now c.parties.p-index 0)) _ (same_rules _ _ i.same) e.reply e.log in
     record {
       whole = join_on f 0 _ _ _ c.args.present.now c.parties.p-index c.parties-test.true r i.whole;
+      grows = begins_more _ _ _ i.grows (begins_append _ _ _ e.log);
       same = same_then _ _ _ i.same e.setting;
       roll = e.roll ∙ i.roll;
       most = e.most ∙ i.most;
@@ -35,3 +38,7 @@ parties-preserved g c =
 
 pub returns-clause-run : goal.returns-clause-run
 returns-clause-run g c = join_end _ 0 _ _ c.args.present.now c.parties.p-index (omega arith) c.parties.invariant.whole
+
+pub returns-in_err-join-clause-stopped : goal.returns-in_err-join-clause-stopped
+returns-in_err-join-clause-stopped g c =
+    on_err c.from_residual.result _ (joins_stop (rules_of c.args.session.now.standing) 0 _ _ _ _ c.in_err-join.ensures.nothing_logged c.parties.invariant.whole)

@@ -11,13 +11,15 @@ use Rattle.session_rules.specs.States.{State, plan}
 use Rattle.session_rules.specs.Histories.{state_after}
 use Rattle.session_spec.specs.Settings.{seed_at, value_at}
 use Rattle.session_state.specs.Standings.{setting, rules_of, state}
-use Rattle.lane_workers.specs.Acting.{run_behind, Owns}
+use Rattle.lane_workers.specs.Acting.{Owns}
 use Rattle.lane_workers.proofs.Growth.{behind_same, gift_on, gift_end}
 use Rattle.lane_workers.proofs.Bringing.{same_then, same_rules, seeds_still, few_places, input_issues, input_brought}
+use Rattle.session_state.proofs.Joins.{on_err}
+use Rattle.lane_workers.proofs.Stopping.{begins_same, begins_append, begins_more, gifts_stop}
 use Rattle.lane_workers.proofs.sending.give_all.Goals as goal
 
 pub places-init : goal.places-init
-places-init g c = record { whole = refl; issued = refl; same = record { setting = refl; params = refl }; roll = refl; most = refl }
+places-init g c = record { whole = refl; issued = refl; grows = begins_same _ _ refl; same = record { setting = refl; params = refl }; roll = refl; most = refl }
 
 pub input-requires-clause-circuit : goal.input-requires-clause-circuit
 input-requires-clause-circuit g c =
@@ -74,6 +76,7 @@ places-preserved g c =
       whole = gift_on f 0 _ _ _ c.args.places.now c.places.place-index c.places-test.true r i.whole;
       issued = ap (λ (z : State). z.instances) e.state ∙ input_issues (rules_of now.standing) (state_after (rules_of now.standing) now.log.items) 0 place.0 place.1
           ∙ ap (λ (z : State). z.instances) (sym now.state_is) ∙ i.issued;
+      grows = begins_more _ _ _ i.grows (begins_append _ _ _ e.log);
       same = same_then _ _ _ i.same e.setting;
       roll = e.roll ∙ i.roll;
       most = e.most ∙ i.most;
@@ -81,3 +84,11 @@ places-preserved g c =
 
 pub returns-clause-run : goal.returns-clause-run
 returns-clause-run g c = gift_end _ 0 _ _ c.args.places.now c.places.place-index (omega arith) c.places.invariant.whole
+
+pub returns-in_err-ct-clause-stopped : goal.returns-in_err-ct-clause-stopped
+returns-in_err-ct-clause-stopped g c =
+    on_err c.from_residual.result _ (gifts_stop (rules_of c.args.session.now.standing) 0 c.places.session.log.items _ _ _ refl c.places.invariant.whole)
+
+pub returns-in_err-input-clause-stopped : goal.returns-in_err-input-clause-stopped
+returns-in_err-input-clause-stopped g c =
+    on_err c.from_residual-in_err-input.result _ (gifts_stop (rules_of c.args.session.now.standing) 0 c.places.session.log.items _ _ _ c.in_err-input.ensures.nothing_logged c.places.invariant.whole)

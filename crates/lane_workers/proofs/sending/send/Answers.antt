@@ -1,4 +1,4 @@
-use Rattle.std.proofs.Common.{◌≡◌, ◌∙◌, sym, ap, subst, refl, ℕ, true, List, [], All, Some, None}
+use Rattle.std.proofs.Common.{◌≡◌, ◌∙◌, sym, ap, subst, ℕ, true, List, [], All}
 use Rattle.ring_spec.specs.Pairs.{Key}
 use Rattle.std.specs.declared.alloc.Global.{Global}
 use Rattle.std.specs.declared.sync.Arc.{Arc}
@@ -17,8 +17,10 @@ use Rattle.session_state.specs.Shared.{shared_if}
 use Rattle.session_state.specs.Standings.{setting, rules_of, state, store}
 use Rattle.lane_workers.specs.Acting.{run_behind, OwnsPlace}
 use Rattle.lane_workers.proofs.Growth.{behind, all_owed, none_owed, gifts_end}
-use Rattle.lane_workers.proofs.Bringing.{at_some, same_then, same_rules, seeds_still}
+use Rattle.lane_workers.proofs.Bringing.{at_some, same_then, seeds_still}
 use Rattle.lane_workers.proofs.Owing.{owed_own, no_inputs, held_done, key_after, pending_said, listed_inputs, not_listed}
+use Rattle.session_state.proofs.Joins.{on_err}
+use Rattle.lane_workers.proofs.Stopping.{begins_append, begins_more, send_waits, is_listed, sharing_stops, giving_stops}
 use Rattle.lane_workers.proofs.sending.send.Goals as goal
 use Rattle.lane_workers.proofs.sending.send.Goals.{in-List+in_ok-share_all+in-None, in-List+in_ok-share_all+in-Some+in_ok-give_all-in-Some, in_default}
 
@@ -101,3 +103,57 @@ give_all-requires-clause-key g c κs within = λ t.
     c.deref.ensures ∙ told ∙ ap (λ (z : State). key_in w seeds z.instances) (sym here) ∙ stays ∙ ap (λ (z : State). key_in w seeds z.instances) there
     ∙ ap (λ (z : List (List ℕ)). key_in w z (state sh.standing).instances) (sym (seeds_still _ _ _ _ same (ap g.R.Roll.seed roll)))
     ∙ ap (λ (z : Setting). key_in z seeds' (state sh.standing).instances) (sym same.setting)
+
+pub returns-in_err-listing-clause-stopped : goal.returns-in_err-listing-clause-stopped
+returns-in_err-listing-clause-stopped g c =
+    on_err c.from_residual.result _ (send_waits (rules_of c.args.session.now.standing) (g.P.Party.number c.args.party.now) c.args.session.now.log.items _ c.in_err-listing.ensures.nothing_logged)
+
+pub returns-in_err-share_all-clause-stopped : goal.returns-in_err-share_all-clause-stopped
+returns-in_err-share_all-clause-stopped g c =
+    let b = c.in_ok-listing.ensures in
+    let f = rules_of c.args.session.now.standing in
+    let p = g.P.Party.number c.args.party.now in
+    let log = c.args.session.now.log.items in
+    let mid = c.pending.new.self.log.items in
+    let l = is_listed f p c.number.result log mid c.in_ok-listing.listing.reply c.in-List.ids c.in-List.inputs c.number.ensures b.reply b.log c.in-List.is in
+    on_err c.from_residual-in_err-share_all.result _
+    (sharing_stops f (rules_of c.pending.new.self.standing) p log mid _ c.as_slice.result.now c.in-List.ids c.in-List.inputs (ap rules b.setting.setting) c.as_slice.ensures l c.in_err-share_all.ensures.stopped)
+
+pub returns-in_err-share_all-clause-grows : goal.returns-in_err-share_all-clause-grows
+returns-in_err-share_all-clause-grows g c =
+    let mid = c.pending.new.self.log.items in
+    begins_more c.args.session.now.log.items mid _ (begins_append c.args.session.now.log.items mid _ c.in_ok-listing.ensures.log) c.in_err-share_all.ensures.grows
+
+pub returns-in_err-give_all-in-Some-clause-stopped : goal.returns-in_err-give_all-in-Some-clause-stopped
+returns-in_err-give_all-in-Some-clause-stopped g c =
+    let b = c.in_ok-listing.ensures in
+    let e = c.in_ok-share_all.ensures in
+    let f = rules_of c.args.session.now.standing in
+    let p = g.P.Party.number c.args.party.now in
+    let log = c.args.session.now.log.items in
+    let mid = c.pending.new.self.log.items in
+    let sh = c.share_all.new.session in
+    let l = is_listed f p c.number.result log mid c.in_ok-listing.listing.reply c.in-List.ids c.in-List.inputs c.number.ensures b.reply b.log c.in-List.is in
+    on_err c.from_residual-in_err-give_all-in-Some.result _
+    (giving_stops f (rules_of c.pending.new.self.standing) (rules_of sh.standing) p log mid sh.log.items _ c.as_slice.result.now c.in-List.ids c.as_slice-in-Some.result.now c.in-List.inputs
+    (ap rules b.setting.setting) (ap rules (e.same.setting ∙ b.setting.setting)) c.as_slice.ensures c.as_slice-in-Some.ensures l e.run c.in_err-give_all-in-Some.ensures.stopped)
+
+pub returns-in_err-give_all-in-Some-clause-grows : goal.returns-in_err-give_all-in-Some-clause-grows
+returns-in_err-give_all-in-Some-clause-grows g c =
+    let log = c.args.session.now.log.items in
+    let mid = c.pending.new.self.log.items in
+    let later = c.share_all.new.session.log.items in
+    begins_more log later _ (begins_more log mid later (begins_append log mid _ c.in_ok-listing.ensures.log) c.in_ok-share_all.ensures.grows) c.in_err-give_all-in-Some.ensures.grows
+
+pub returns-clause-grows : goal.returns-clause-grows
+returns-clause-grows g c =
+    let log = c.args.session.now.log.items in
+    let mid = c.pending.new.self.log.items in
+    let asked = begins_append log mid _ c.in_ok-listing.ensures.log in
+    elim c.match-listing.branch [
+      | in-List+in_ok-share_all+in-None w ↦ rw w.session-is (begins_more log mid w.share_all.new.session.log.items asked w.in_ok-share_all.ensures.grows)
+      | in-List+in_ok-share_all+in-Some+in_ok-give_all-in-Some w ↦
+          let later = w.share_all.new.session.log.items in
+          rw w.session-is (begins_more log later w.give_all.new.session.log.items (begins_more log mid later asked w.in_ok-share_all.ensures.grows) w.in_ok-give_all-in-Some.ensures.grows)
+      | in_default w ↦ rw w.session-is asked
+    ]

@@ -1,9 +1,10 @@
-use Rattle.std.proofs.Common.{◌≡◌, ◌∙◌, sym, ap, subst, refl, ℕ, ◌<◌, List, length, Some, None, true, arith}
+use Rattle.std.proofs.Common.{◌≡◌, ◌∙◌, sym, ap, subst, refl, ℕ, List, All, length, Some, None, arith}
 use Rattle.proto_names.specs.Names.{rows_of}
 use Rattle.proto_names.specs.Instances.{instance}
 use Rattle.proto_names.specs.declared.instance.Instance.{Instance}
-use Rattle.instance_table.specs.declared.brief.Brief.{Brief}
+use Rattle.ring_spec.specs.Ring.{IsPoly}
 use Rattle.noise_ledger.specs.Bounds.{numbers_of}
+use Rattle.param_set.specs.declared.params.Params.{Params}
 use Rattle.party_roll.specs.Briefs.{IsBrief}
 use Rattle.party_roll.specs.Seeds.{seeds_told}
 use Rattle.session_rules.specs.declared.call.Call.{Call}
@@ -12,7 +13,7 @@ use Rattle.session_rules.specs.declared.reply.Reply.{Reply}
 use Rattle.session_rules.specs.States.{State}
 use Rattle.session_rules.specs.Histories.{state_after}
 use Rattle.session_rules.specs.Lanes.{Run, called, briefed, reply_of}
-use Rattle.session_spec.specs.Settings.{Setting, rules}
+use Rattle.session_spec.specs.Settings.{rules}
 use Rattle.session_spec.specs.Outputs.{key_in, polys_of}
 use Rattle.session_spec.specs.Shares.{share_rows}
 use Rattle.session_laws.proofs.Plans.{rules_rows}
@@ -20,7 +21,9 @@ use Rattle.session_state.specs.Standings.{setting, rules_of, state, store}
 use Rattle.session_state.specs.Handed.{IsBriefOf, brief_reply}
 use Rattle.lane_workers.specs.Acting.{run_behind}
 use Rattle.lane_workers.proofs.Growth.{behind, behind_same, no_share, one_share}
-use Rattle.lane_workers.proofs.Bringing.{made_rows, is_told, brief_stays, silent, share_made, share_brought, brief_number, at_arc}
+use Rattle.lane_workers.proofs.Bringing.{made_rows, brief_stays, silent, share_made, share_brought, brief_number, at_arc}
+use Rattle.session_state.proofs.Joins.{on_err}
+use Rattle.lane_workers.proofs.Stopping.{begins_append, begins_more, share_waits, share_stops}
 use Rattle.lane_workers.proofs.sending.share.Goals as goal
 use Rattle.lane_workers.proofs.sending.share.Goals.{in-Some+in_ok-share-in-Some+in_ok-deliver-in-Some, in-None}
 
@@ -93,4 +96,35 @@ returns-clause-run g c =
           let quiet : briefed (reply_of f 0 (run_behind f log) (call.Brief id)) ≡ None =
           ap briefed said ∙ silent (state_after f log) id (λ i e alive. b.there i (subst (λ (z : State). instance z.instances id ≡ Some i) (sym old.state_is) e) alive w.in-None.is) in
           rw w.session-is (asked ∙ no_share f 0 p (run_behind f log) id quiet)
+    ]
+
+pub deliver-requires-clause-fits : goal.deliver-requires-clause-fits
+deliver-requires-clause-fits g c κs within =
+    subst (λ (z : Params). All (IsPoly z.q z.n) c.in_ok-share-in-Some.share.rows) (c.requires.ring ∙ sym c.in_ok-briefing.ensures.setting.params) c.in_ok-share-in-Some.ensures.fit
+
+pub returns-in_err-briefing-clause-stopped : goal.returns-in_err-briefing-clause-stopped
+returns-in_err-briefing-clause-stopped g c =
+    on_err c.from_residual.result _ (share_waits (rules_of c.args.session.now.standing) (g.P.Party.number c.args.party.now) c.args.session.now.log.items _ c.args.id c.in_err-briefing.ensures.nothing_logged)
+
+pub returns-in_err-share-in-Some-clause-stopped : goal.returns-in_err-share-in-Some-clause-stopped
+returns-in_err-share-in-Some-clause-stopped g c =
+    let b = c.in_ok-briefing.ensures in
+    on_err c.from_residual-in_err-share-in-Some.result _
+    (share_stops (rules_of c.args.session.now.standing) (g.P.Party.number c.args.party.now) c.args.session.now.log.items c.brief.new.self.log.items _ c.args.id c.in_ok-briefing.briefing.reply b.reply b.log refl)
+
+pub returns-in_err-deliver-in-Some-clause-stopped : goal.returns-in_err-deliver-in-Some-clause-stopped
+returns-in_err-deliver-in-Some-clause-stopped g c =
+    let b = c.in_ok-briefing.ensures in
+    on_err c.from_residual-in_err-deliver-in-Some.result _
+    (share_stops (rules_of c.args.session.now.standing) (g.P.Party.number c.args.party.now) c.args.session.now.log.items c.brief.new.self.log.items _ c.args.id c.in_ok-briefing.briefing.reply b.reply b.log
+    c.in_err-deliver-in-Some.ensures.nothing_logged)
+
+pub returns-clause-grows : goal.returns-clause-grows
+returns-clause-grows g c =
+    let mid = c.brief.new.self.log.items in
+    let asked = begins_append c.args.session.now.log.items mid _ c.in_ok-briefing.ensures.log in
+    elim c.match-briefing.branch [
+      | in-Some+in_ok-share-in-Some+in_ok-deliver-in-Some w ↦
+          rw w.session-is (begins_more c.args.session.now.log.items mid w.deliver.new.self.log.items asked (begins_append mid w.deliver.new.self.log.items _ w.in_ok-deliver-in-Some.ensures.log))
+      | in-None w ↦ rw w.session-is asked
     ]

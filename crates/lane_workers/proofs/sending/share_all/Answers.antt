@@ -1,14 +1,16 @@
-use Rattle.std.proofs.Common.{◌≡◌, ◌∙◌, sym, ap, subst, refl, ℕ, get_or, arith}
+use Rattle.std.proofs.Common.{◌≡◌, ◌∙◌, sym, ap, subst, refl, get_or, arith}
 use Rattle.session_rules.specs.declared.fixed.Fixed.{Fixed}
-use Rattle.session_rules.specs.Lanes.{Run, shared}
+use Rattle.session_rules.specs.Lanes.{shared}
 use Rattle.session_state.specs.Standings.{rules_of}
 use Rattle.lane_workers.specs.Acting.{run_behind}
 use Rattle.lane_workers.proofs.Growth.{share_on, share_end}
 use Rattle.lane_workers.proofs.Bringing.{same_then, same_rules, able_still, seeds_still, honest_still}
+use Rattle.session_state.proofs.Joins.{on_err}
+use Rattle.lane_workers.proofs.Stopping.{begins_same, begins_more, shares_stop}
 use Rattle.lane_workers.proofs.sending.share_all.Goals as goal
 
 pub ids-init : goal.ids-init
-ids-init g c = record { whole = refl; same = record { setting = refl; params = refl }; roll = refl; most = refl }
+ids-init g c = record { whole = refl; grows = begins_same _ _ refl; same = record { setting = refl; params = refl }; roll = refl; most = refl }
 
 pub share-requires-clause-ring : goal.share-requires-clause-ring
 share-requires-clause-ring g c κs within = c.requires.ring ∙ sym c.ids.invariant.same.params
@@ -34,6 +36,7 @@ ids-preserved g c =
     subst (λ (z : Fixed). run_behind z c.share.new.session.log.items ≡ shared z 0 p (run_behind z c.ids.session.log.items) (get_or c.args.ids.now c.ids.id-index 0)) (same_rules _ _ i.same) e.run in
     record {
       whole = share_on f 0 p _ _ _ c.args.ids.now c.ids.id-index c.ids-test.true r i.whole;
+      grows = begins_more _ _ _ i.grows e.grows;
       same = same_then _ _ _ i.same e.same;
       roll = e.roll ∙ i.roll;
       most = e.most ∙ i.most;
@@ -41,3 +44,9 @@ ids-preserved g c =
 
 pub returns-clause-run : goal.returns-clause-run
 returns-clause-run g c = share_end _ 0 _ _ _ c.args.ids.now c.ids.id-index (omega arith) c.ids.invariant.whole
+
+pub returns-in_err-share-clause-stopped : goal.returns-in_err-share-clause-stopped
+returns-in_err-share-clause-stopped g c =
+    let i = c.ids.invariant in
+    on_err c.from_residual.result _ (shares_stop (rules_of c.args.session.now.standing) (rules_of c.ids.session.standing) 0 (g.P.Party.number c.args.party.now) c.ids.session.log.items _ _ c.args.ids.now c.ids.id-index
+    (same_rules _ _ i.same) c.ids-test.true c.in_err-share.ensures.stopped i.whole)

@@ -1,4 +1,4 @@
-use Rattle.std.proofs.Common.{◌≡◌, ◌∙◌, sym, ap, subst, refl, ℕ, ◌≤◌, ◌<◌, true, List, [], ◌∷◌, ◌+◌, ◌-◌, false, length, map, filter, drop, get_or, arith}
+use Rattle.std.proofs.Common.{◌≡◌, ◌∙◌, sym, ap, subst, refl, ℕ, ◌≤◌, true, [], ◌∷◌, ◌+◌, ◌-◌, false, map, filter, drop, arith}
 use Rattle.std.specs.List.{range_with_len}
 use Rattle.std.proofs.lemmas.List.{drop_all, drop_more}
 use Rattle.share_spec.specs.Sets.{has, members, members_to}
@@ -11,6 +11,8 @@ use Rattle.lane_workers.proofs.Growth.{here_on, away_on, sends_end}
 use Rattle.lane_workers.proofs.Bringing.{same_then, same_rules, able_still, seeds_still, honest_still}
 use Rattle.proto_names.proofs.Members.{members_all}
 use Rattle.lane_workers.proofs.Present.{members_up_to}
+use Rattle.session_state.proofs.Joins.{on_err}
+use Rattle.lane_workers.proofs.Stopping.{begins_same, begins_more, sends_stop}
 use Rattle.lane_workers.proofs.settling.send_by_all.Goals as goal
 use Rattle.lane_workers.proofs.settling.send_by_all.Goals.{then-has+in_ok-send, else-has}
 
@@ -50,7 +52,7 @@ parties-init g c =
     let here : filter (has c.present-present.result.bits) (map g.P.Party.number c.args.parties.now) ≡ members set =
     ap (λ (z : ℕ). filter (has z) (map g.P.Party.number c.args.parties.now)) c.present-present.ensures ∙ ap (filter (has set)) c.requires.numbers
     ∙ in_range set n ∙ sym (members_up_to set n (32 - n) within) ∙ ap (λ (z : ℕ). members_to z set) all ∙ sym (members_all set) in
-    record { whole = ap (sent_by_all f 0 (run_behind f c.args.session.now.log.items)) here; same = record { setting = refl; params = refl }; roll = refl; most = refl }
+    record { whole = ap (sent_by_all f 0 (run_behind f c.args.session.now.log.items)) here; grows = begins_same _ _ refl; same = record { setting = refl; params = refl }; roll = refl; most = refl }
 
 pub send-requires-clause-told : goal.send-requires-clause-told
 send-requires-clause-told g c κs within = λ t.
@@ -81,6 +83,7 @@ parties-preserved g c =
           let here : has bits n ≡ true = ap (has bits) (sym c.number.ensures) ∙ sym w.if-has.ensures in
           record {
             whole = rw w.session-is (ap (λ (z : Run). sent_by_all f 0 z (filter (has bits) rest)) t ∙ sym (here_on f 0 bits n r rest here) ∙ whole);
+            grows = rw w.session-is (begins_more c.args.session.now.log.items c.parties.session.log.items w.send.new.session.log.items i.grows e.grows);
             same = rw w.session-is (same_then _ _ _ i.same e.same);
             roll = rw w.session-is (e.roll ∙ i.roll);
             most = rw w.session-is (e.most ∙ i.most);
@@ -89,8 +92,25 @@ parties-preserved g c =
           let away : has bits n ≡ false = ap (has bits) (sym c.number.ensures) ∙ sym w.if-has.ensures in
           record {
             whole = rw w.session-is (sym (away_on f 0 bits n r rest away) ∙ whole);
+            grows = rw w.session-is i.grows;
             same = rw w.session-is i.same;
             roll = rw w.session-is i.roll;
             most = rw w.session-is i.most;
           }
     ]
+
+pub returns-in_err-send-clause-stopped : goal.returns-in_err-send-clause-stopped
+returns-in_err-send-clause-stopped g c =
+    let i = c.parties.invariant in
+    let f = rules_of c.args.session.now.standing in
+    let ps = c.args.parties.now in
+    let k = c.parties.party-index in
+    let x = c.party-item.result in
+    let bits = c.present-present.result.bits in
+    let r = run_behind f c.parties.session.log.items in
+    let rest = map g.P.Party.number (drop (k + 1) ps) in
+    let n = g.P.Party.number x in
+    let next : drop k ps ≡ x ∷ drop (k + 1) ps = drop_more ps k x c.parties-test.true ∙ ap (λ z. z ∷ drop (k + 1) ps) (sym c.party-item.is) in
+    let here : has bits n ≡ true = ap (has bits) (sym c.number.ensures) ∙ sym c.if-has.ensures in
+    on_err c.from_residual.result _ (sends_stop f (rules_of c.parties.session.standing) 0 n c.parties.session.log.items _ _ (filter (has bits) rest) (same_rules _ _ i.same) c.in_err-send.ensures.stopped
+    (sym (here_on f 0 bits n r rest here) ∙ ap (λ z. sent_by_all f 0 r (filter (has bits) (map g.P.Party.number z))) (sym next) ∙ i.whole))

@@ -1,18 +1,20 @@
-use Rattle.std.proofs.Common.{◌≡◌, ◌∙◌, sym, ap, subst, refl, ℕ, ◌-◌, true, false, All, map, List, arith}
+use Rattle.std.proofs.Common.{◌≡◌, ◌∙◌, sym, ap, subst, refl, ℕ, ◌+◌, ◌-◌, true, false, List, arith}
 use Rattle.std.specs.List.{list_all, range_with_len}
 use Rattle.param_set.specs.declared.params.Params.{Params}
 use Rattle.session_rules.specs.declared.fixed.Fixed.{Fixed}
 use Rattle.session_rules.specs.declared.state.CircuitState.{CircuitState}
 use Rattle.session_rules.specs.States.{State}
 use Rattle.session_rules.specs.Lanes.{Run, is_over, is_settled, round, rounds}
-use Rattle.session_state.specs.Standings.{rules_of, setting, state}
+use Rattle.session_state.specs.Standings.{rules_of, state}
 use Rattle.lane_workers.specs.Acting.{run_behind}
 use Rattle.lane_workers.proofs.Growth.{rounds_over, round_on, rounds_end, settled_is, over_is}
 use Rattle.lane_workers.proofs.Bringing.{same_then, same_rules, able_still, seeds_still, honest_still}
+use Rattle.session_state.proofs.Joins.{on_err}
+use Rattle.lane_workers.proofs.Stopping.{begins_same, begins_more, rounds_stop}
 use Rattle.lane_workers.proofs.settling.settle.Goals as goal
 
 pub rounds-init : goal.rounds-init
-rounds-init g c = record { whole = refl; same = record { setting = refl; params = refl }; roll = refl; most = refl }
+rounds-init g c = record { whole = refl; grows = begins_same _ _ refl; same = record { setting = refl; params = refl }; roll = refl; most = refl }
 
 pub returns-then-is_settled-clause-run : goal.returns-then-is_settled-clause-run
 returns-then-is_settled-clause-run g c =
@@ -61,6 +63,7 @@ rounds-preserved g c =
     let made = subst (λ (z : Fixed). run_behind z c.round.new.session.log.items ≡ round z 0 (run_behind z now.log.items)) (same_rules _ _ i.same) e.run in
     record {
       whole = round_on _ _ f 0 r _ _ (let x = c.rounds-test.true in omega (arith, x)) undone made i.whole;
+      grows = begins_more _ _ _ i.grows e.grows;
       same = same_then _ _ _ i.same e.same;
       roll = e.roll ∙ i.roll;
       most = e.most ∙ i.most;
@@ -76,3 +79,18 @@ returns-clause-run g c =
 
 pub returns-clause-same : goal.returns-clause-same
 returns-clause-same g c = c.rounds.invariant.same
+
+pub returns-in_err-round-clause-stopped : goal.returns-in_err-round-clause-stopped
+returns-in_err-round-clause-stopped g c =
+    let i = c.rounds.invariant in
+    let old = c.args.session.now in
+    let now = c.rounds.session in
+    let f = rules_of old.standing in
+    let r = run_behind f now.log.items in
+    let there : state now.standing ≡ r.state = subst (λ (z : Fixed). state now.standing ≡ (run_behind z now.log.items).state) (same_rules _ _ i.same) now.state_is in
+    let tested : list_all is_over c.circuit_states.result.now ≡ false = sym c.is_settled.ensures ∙ c.if-is_settled.false in
+    let undone : is_settled r.state ≡ false =
+    sym (over_is r.state) ∙ ap (λ (z : State). list_all is_over z.circuits) (sym there) ∙ ap (λ (z : List CircuitState). list_all is_over z) (sym c.circuit_states.ensures) ∙ tested in
+    let whole = i.whole ∙ settled_is f 0 (run_behind f old.log.items) in
+    on_err c.from_residual.result _ (rounds_stop (6 - c.rounds.counter) (6 - (c.rounds.counter + 1)) f (rules_of now.standing) 0 now.log.items _ _ (let x = c.rounds-test.true in omega (arith, x)) undone (same_rules _ _ i.same)
+    c.in_err-round.ensures.stopped whole)

@@ -3,13 +3,14 @@ use Rattle.std.proofs.Common.{◌≡◌, ◌-◌}
 use Rattle.session_rules.specs.Lanes.{rounds}
 use Rattle.session_state.specs.Standings.{rules_of}
 use Rattle.session_core.specs.Sessions.{IsSameSetting}
-use Rattle.lane_workers.specs.Acting.{run_behind}
+use Rattle.lane_workers.specs.Acting.{run_behind, Begins}
 use Rattle.lane_workers.proofs.settling.settle.Given as goal
 
 abbrev pub invariant-rounds : goal.invariant-rounds
 invariant-rounds g l = record {
   whole : rounds (6 - l.counter) (rules_of l.fn.session.standing) 0 (run_behind (rules_of l.fn.session.standing) l.session.log.items)
       ≡ rounds 6 (rules_of l.fn.session.standing) 0 (run_behind (rules_of l.fn.session.standing) l.fn.session.log.items);
+  grows : Begins l.fn.session.log.items l.session.log.items;
   same : IsSameSetting l.fn.session.standing l.session.standing;
   roll : l.session.roll ≡ l.fn.session.roll;
   most : l.session.max_calls ≡ l.fn.session.max_calls;

@@ -1,4 +1,4 @@
-use Rattle.std.proofs.Common.{◌≡◌, ◌∙◌, sym, ap, subst, refl, ℕ, List, Some, None}
+use Rattle.std.proofs.Common.{◌≡◌, ◌∙◌, sym, ap, refl, Some, None}
 use Rattle.noise_ledger.specs.Bounds.{numbers_of}
 use Rattle.circuit_runner.specs.declared.job.Job.{Job}
 use Rattle.party_roll.specs.Seeds.{seeds_told}
@@ -14,6 +14,8 @@ use Rattle.session_state.specs.Handed.{IsJobFor}
 use Rattle.lane_workers.specs.Acting.{run_behind}
 use Rattle.lane_workers.proofs.Growth.{behind, behind_same, no_work, one_work}
 use Rattle.lane_workers.proofs.Bringing.{at_some, take_issues, output_brought, seeds_still}
+use Rattle.session_state.proofs.Joins.{on_err}
+use Rattle.lane_workers.proofs.Stopping.{work_waits, work_stops}
 use Rattle.lane_workers.proofs.working.work.Goals as goal
 
 pub finish-requires-clause-honest : goal.finish-requires-clause-honest
@@ -57,3 +59,18 @@ returns-in_ok-finish-in-Some-clause-run g c =
     let asked = behind f old.log.items new.log.items 0 call.Take c.in_ok-job.field-0.reply b.reply b.log in
     let given = behind_same f (rules_of new.standing) new.log.items c.finish.new.self.log.items 0 (call.Finish j.number) _ (ap rules b.setting.setting) d.reply d.log in
     given ∙ ap (λ (z : Run). called f 0 z (call.Finish j.number)) asked ∙ one_work f 0 (run_behind f old.log.items) j.number (ap job (sym b.reply ∙ it))
+
+pub returns-in_err-job-clause-stopped : goal.returns-in_err-job-clause-stopped
+returns-in_err-job-clause-stopped g c = on_err c.from_residual.result _ (work_waits (rules_of c.args.session.now.standing) 0 c.args.session.now.log.items _ c.in_err-job.ensures.nothing_logged)
+
+pub returns-in_err-ct-in-Some-clause-stopped : goal.returns-in_err-ct-in-Some-clause-stopped
+returns-in_err-ct-in-Some-clause-stopped g c =
+    let b = c.in_ok-job.ensures in
+    on_err c.from_residual-in_err-ct-in-Some.result _
+    (work_stops (rules_of c.args.session.now.standing) c.args.session.now.log.items c.take.new.self.log.items _ c.in_ok-job.field-0.reply b.reply b.log refl)
+
+pub returns-in_err-finish-in-Some-clause-stopped : goal.returns-in_err-finish-in-Some-clause-stopped
+returns-in_err-finish-in-Some-clause-stopped g c =
+    let b = c.in_ok-job.ensures in
+    on_err c.from_residual-in_err-finish-in-Some.result _
+    (work_stops (rules_of c.args.session.now.standing) c.args.session.now.log.items c.take.new.self.log.items _ c.in_ok-job.field-0.reply b.reply b.log c.in_err-finish-in-Some.ensures.nothing_logged)

@@ -1,12 +1,13 @@
-use Rattle.std.proofs.Common.{◌≡◌, ◌∙◌, sym, ap, subst, refl, ℕ, ◌-◌, List, length, arith}
+use Rattle.std.proofs.Common.{◌≡◌, ◌∙◌, sym, ap, refl, ℕ, ◌+◌, ◌-◌, length, arith}
 use Rattle.session_rules.specs.declared.call.Call.TheVariants as call
-use Rattle.session_rules.specs.Lanes.{Run, worked_off}
-use Rattle.session_spec.specs.Settings.{Offer, rules}
+use Rattle.session_rules.specs.Lanes.{worked_off}
 use Rattle.session_laws.proofs.Plans.{rules_number}
 use Rattle.session_state.specs.Standings.{setting, rules_of}
 use Rattle.lane_workers.specs.Acting.{run_behind}
 use Rattle.lane_workers.proofs.Growth.{behind_same, work_on_same, work_end_same, work_last}
 use Rattle.lane_workers.proofs.Bringing.{same_then, same_rules}
+use Rattle.session_state.proofs.Joins.{on_err}
+use Rattle.lane_workers.proofs.Stopping.{begins_same, begins_more, works_stop, works_wait}
 use Rattle.lane_workers.proofs.working.work_off.Goals as goal
 
 pub jobs-init : goal.jobs-init
@@ -16,6 +17,7 @@ jobs-init g c =
     record {
       count = count;
       whole = ap (λ (z : ℕ). worked_off z f 0 (run_behind f c.args.session.now.log.items)) (let e : c.len-circuits.result - 0 ≡ length f.plans = omega (arith, count) in e);
+      grows = begins_same _ _ refl;
       same = record { setting = refl; params = refl };
       roll = refl;
       most = refl;
@@ -44,6 +46,7 @@ jobs-preserved g c =
       count = i.count;
       whole = work_on_same _ _ (rules_of c.args.session.now.standing) (rules_of c.jobs.session.standing) 0 c.jobs.session.log.items c.work.new.session.log.items _ c.in_ok-work.field-0 (let x = c.jobs-test.true in omega (arith, x))
           (same_rules _ _ i.same) e.more c.if-not-branch.false e.run i.whole;
+      grows = begins_more _ _ _ i.grows e.grows;
       same = same_then _ _ _ i.same e.same;
       roll = e.roll ∙ i.roll;
       most = e.most ∙ i.most;
@@ -62,3 +65,13 @@ returns-clause-run g c =
 
 pub returns-clause-same : goal.returns-clause-same
 returns-clause-same g c = same_then _ _ _ c.jobs.invariant.same c.take.ensures.setting
+
+pub returns-in_err-work-clause-stopped : goal.returns-in_err-work-clause-stopped
+returns-in_err-work-clause-stopped g c =
+    let i = c.jobs.invariant in
+    on_err c.from_residual.result _ (works_stop (c.len-circuits.result - c.jobs.counter) (c.len-circuits.result - (c.jobs.counter + 1)) (rules_of c.args.session.now.standing) (rules_of c.jobs.session.standing) 0 c.jobs.session.log.items _ _
+    (let x = c.jobs-test.true in omega (arith, x)) (same_rules _ _ i.same) c.in_err-work.ensures.stopped i.whole)
+
+pub returns-in_err-take-clause-stopped : goal.returns-in_err-take-clause-stopped
+returns-in_err-take-clause-stopped g c =
+    on_err c.from_residual-in_err-take.result _ (works_wait _ (rules_of c.args.session.now.standing) 0 c.jobs.session.log.items _ _ c.in_err-take.ensures.nothing_logged c.jobs.invariant.whole)
