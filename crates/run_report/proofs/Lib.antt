@@ -1,5 +1,7 @@
 pub mod Trimmed
 pub mod Spaced
 pub mod Hashed
+pub mod Rows
 pub mod Sections
+pub mod Checked
 mod Instances

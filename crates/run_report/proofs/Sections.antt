@@ -1,8 +1,8 @@
 -- The sections of a report, one line at a time, and the whole of them.
-use Rattle.std.proofs.Common.{◌≡◌, ◌∙◌, ap, ap₂, sym, subst, refl, ℕ, zero, suc, ◌+◌, ◌-◌, ◌<◌, Bool, false, cond, Some, None, List, [], ◌∷◌, ◌++◌, length, get_or, take, codes, arith}
+use Rattle.std.proofs.Common.{◌≡◌, ◌∙◌, ap, ap₂, sym, subst, refl, ℕ, ◌+◌, ◌-◌, ◌<◌, Bool, false, cond, Some, None, List, [], ◌∷◌, ◌++◌, length, get_or, take, codes, arith}
 use Rattle.std.specs.Prelude.{nat_eq}
 use Rattle.std.specs.List.{range_with_len, flat_map, slice_get}
-use Rattle.std.proofs.lemmas.List.{take_more, append-nil, flat_map_more, length-map}
+use Rattle.std.proofs.lemmas.List.{take_more, flat_map_more, length-map}
 use Rattle.std.proofs.lemmas.Bool.Decides.{nat_tests}
 use Rattle.std.proofs.lemmas.Option.{slice_get-get_or}
 use Rattle.proto_names.specs.Instances.{instance}
@@ -25,26 +25,15 @@ use Rattle.event_lines.specs.Events.{event_line}
 use Rattle.run_report.specs.Digests.{polys_digest}
 use Rattle.run_report.specs.Lines.{output_line}
 use Rattle.run_report.specs.Reports.{setting_asked, seeds_asked, offered, state_line, name_at, circuit_text, output_text, instance_text, places, report_in, report}
+use Rattle.run_report.proofs.Rows.{none_yet, range_push}
 use Rattle.run_report.specs.Told.{seeds_of, told_circuit, told_output, told_digest, told_instance}
 
 -- ---- one line more
-
-range_more : (n a : ℕ) → range_with_len a (suc n) ≡ range_with_len a n ++ (a + n) ∷ []
-range_more zero a = ap (λ (z : ℕ). z ∷ []) (omega arith)
-range_more (suc n) a = ap (λ (zs : List ℕ). a ∷ zs) (range_more n (a + 1) ∙ ap (λ (z : ℕ). range_with_len (a + 1) n ++ z ∷ []) (omega arith))
-
-range_push : (n : ℕ) → range_with_len 0 (n + 1) ≡ range_with_len 0 n ++ n ∷ []
-range_push n =
-    ap (range_with_len 0) (let e : n + 1 ≡ suc n = omega arith in e) ∙ range_more n 0
-    ∙ ap (λ (z : ℕ). range_with_len 0 n ++ z ∷ []) (let f : 0 + n ≡ n = omega arith in f)
 
 places_more : (f : ℕ → List ℕ) (bs line : List ℕ) (c : ℕ) → line ≡ f c → (bs ++ flat_map f (range_with_len 0 c)) ++ line ≡ bs ++ flat_map f (range_with_len 0 (c + 1))
 places_more f bs line c e =
     ap (λ t. (bs ++ flat_map f (range_with_len 0 c)) ++ t) e ∙ flat_map_more f bs (range_with_len 0 c) c
     ∙ ap (λ cs. bs ++ flat_map f cs) (sym (range_push c))
-
-pub none_yet : {X : Type 0} (f : X → List ℕ) (bs : List ℕ) → bs ≡ bs ++ flat_map f []
-none_yet f bs = sym (append-nil bs)
 
 -- ---- what a session tells of a script's circuit is what its report says
 

@@ -37,7 +37,7 @@ fn made_output_line(alloc: Global, name: &[u8], output: &Ciphertext) -> Result<V
 }
 
 // Puts a place of a circuit behind a text.
-fn push_place(text: &mut Vec<u8>, place: Place) -> Result<(), AllocError>
+pub(crate) fn push_place(text: &mut Vec<u8>, place: Place) -> Result<(), AllocError>
     ensures { OnOk result (text.new.items ≡ text.old.items ++ place_text place) }
 {
     match place {
