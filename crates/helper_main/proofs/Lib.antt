@@ -2,3 +2,4 @@ mod Bytes
 mod Inputs
 mod Party
 mod Session
+mod Taken

@@ -1,9 +1,10 @@
 -- The session of a script: what it is made of, and the history of its serial run.
-use Rattle.std.proofs.Common.{◌≡◌, ◌∙◌, sym, ap, ap₂, subst, refl, ℕ, true, List, [], ◌∷◌, length, map, All}
-use Rattle.std.proofs.lemmas.List.Elements.{All-nil, All-cons, All-head, All-same, All-map, All-weaker}
+use Rattle.std.proofs.Common.{◌≡◌, ◌∙◌, sym, ap, ap₂, subst, refl, ℕ, ◌≤◌, true, List, [], length, map, get_or, All, arith}
+use Rattle.std.proofs.lemmas.List.{length-map}
+use Rattle.std.proofs.lemmas.List.Elements.{All-same, All-map, All-weaker}
+use Rattle.std.proofs.lemmas.List.Sums.{AllPass-from_list_all}
 use Rattle.draw_spec.specs.Streams.{party_seed}
 use Rattle.param_set.specs.declared.params.Params.{Params}
-use Rattle.circuit_form.specs.declared.node.Node.TheVariants as node
 use Rattle.cipher_spec.specs.Ciphers.{is_switch_free}
 use Rattle.party_roll.specs.declared.seed_party.SeedParty.{SeedParty}
 use Rattle.party_roll.specs.Seeds.{seeds_told, seeds_of}
@@ -13,7 +14,6 @@ use Rattle.session_rules.specs.declared.line.Line.{Line}
 use Rattle.session_rules.specs.Histories.{after}
 use Rattle.session_rules.specs.Lanes.{serial, served_all, joined_all, settled}
 use Rattle.session_script.specs.Asked.{Asked, Named, Numbers, numbers_of}
-use Rattle.session_script.specs.Form.{IsSum, sum_circuit}
 use Rattle.session_script.specs.Kept.{IsNamed, AreNamed}
 use Rattle.session_spec.specs.Settings.{Setting, Offer, Keeps, rules}
 use Rattle.session_state.specs.Parts.{setting_by}
@@ -21,13 +21,10 @@ use Rattle.session_core.specs.Sessions.{HasTold}
 use Rattle.run_report.specs.Reports.{offered, setting_asked, seeds_asked, report}
 use Rattle.lane_workers.specs.Acting.{run_behind, IsHonestParty}
 use Rattle.helper_main.specs.Parties.{IsPartyOf}
+use Rattle.helper_main.specs.Works.{is_free, are_free}
 use Rattle.helper_main.specs.Runs.{history, serial_report}
 
 -- ---- the circuits
-
-sum_switch_free : (first second : ℕ) → is_switch_free (node.Input first ∷ node.Input second ∷ node.Add 0 1 ∷ []) ≡ true
-unfolding is_switch_free
-sum_switch_free first second = refl
 
 named_keeps : (s : Params) (a : Asked) (one : Named) → a.numbers ≡ numbers_of s → IsNamed a.numbers one → is_switch_free one.nodes ≡ true → Keeps s (offered one)
 named_keeps s a one numbers named free = record {
@@ -35,12 +32,13 @@ named_keeps s a one numbers named free = record {
   switch_free = free;
 }
 
-pub keeps : (a : Asked) (p s : Params) (circuits : List Offer) → a.numbers ≡ numbers_of s → p ≡ s → IsSum a → AreNamed a → circuits ≡ map offered a.circuits → All (Keeps p) circuits
-keeps a p s circuits numbers same sum named is =
-    let one = sum_circuit sum.first sum.second in
-    let kept = named_keeps s a one numbers (All-head (IsNamed a.numbers) one [] (All-same (IsNamed a.numbers) (one ∷ []) a.circuits (sym sum.circuits) named)) (sum_switch_free sum.first.owner sum.second.owner) in
-    All-same (Keeps p) circuits (offered one ∷ []) (is ∙ ap (map offered) sum.circuits)
-    (All-cons (Keeps p) (offered one) [] (subst (λ (z : Params). Keeps z (offered one)) (sym same) kept) (All-nil (Keeps p)))
+all_keep : (s : Params) (a : Asked) → a.numbers ≡ numbers_of s → are_free a.circuits ≡ true → AreNamed a → All (λ (z : Named). Keeps s (offered z)) a.circuits
+all_keep s a numbers free named = λ k d inside. named_keeps s a (get_or a.circuits k d) numbers (named k d inside) (AllPass-from_list_all is_free a.circuits free k d inside)
+
+pub keeps : (a : Asked) (p s : Params) (circuits : List Offer) → a.numbers ≡ numbers_of s → p ≡ s → are_free a.circuits ≡ true → AreNamed a → circuits ≡ map offered a.circuits → All (Keeps p) circuits
+keeps a p s circuits numbers same free named is =
+    subst (λ (z : Params). All (Keeps z) circuits) (sym same)
+    (All-same (Keeps s) circuits (map offered a.circuits) is (All-map (Keeps s) offered a.circuits (all_keep s a numbers free named)))
 
 named_told : (s : Params) (named : Named) → IsNamed (numbers_of s) named → HasTold s (offered named)
 named_told s named h = record { told = refl; number = h.count; plain = h.values }
@@ -51,8 +49,8 @@ told a p s circuits numbers same named is =
     let told_all = All-map (HasTold s) offered a.circuits (All-weaker (IsNamed (numbers_of s)) (λ (z : Named). HasTold s (offered z)) (named_told s) a.circuits all) in
     subst (λ (z : Params). All (HasTold z) circuits) (sym same) (All-same (HasTold s) circuits (map offered a.circuits) is told_all)
 
-pub few : (a : Asked) → IsSum a → length a.circuits ≡ 1
-few a sum = ap length sum.circuits
+pub few : (a : Asked) (circuits : List Offer) → circuits ≡ map offered a.circuits → length a.circuits ≤ 64 → length circuits ≤ 64
+few a circuits is most = omega (arith, ap length is, length-map a.circuits offered, most)
 
 -- ---- its setting
 

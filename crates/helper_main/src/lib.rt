@@ -8,12 +8,15 @@
 //! its first byte is written.
 #![tactic(auto)]
 
+mod owed;
 mod parties;
 mod report;
 mod run;
 mod status;
-#[cfg(test)]
-mod tests;
+mod words;
+mod work;
 
-pub use run::{run_serial, run_words};
+pub use run::{run_check, run_serial};
 pub use status::Status;
+pub use words::run_words;
+pub use work::Work;

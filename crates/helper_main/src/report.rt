@@ -1,10 +1,10 @@
-ghost use Rattle.std.specs.Prelude.{◌≡◌, [], IfOk};
+ghost use Rattle.std.specs.Prelude.{◌≡◌, ◌≤◌, true, [], length, IfOk};
 ghost use Rattle.session_script.specs.Scripts.{asked};
-ghost use Rattle.session_script.specs.Form.{IsSum};
 ghost use Rattle.session_script.specs.Kept.{AreNamed, ArePresent};
 ghost use Rattle.session_state.specs.Standings.{setting};
 ghost use Rattle.run_report.specs.Reports.{setting_asked};
 ghost use Rattle.helper_main.specs.Runs.{history, serial_report};
+ghost use Rattle.helper_main.specs.Works.{are_free};
 
 use crate::parties::{offered, parties};
 use lane_workers::serial;
@@ -22,7 +22,8 @@ const MOST_CALLS: u32 = 8_388_608;
 /// A script's session, before any call.
 fn opened(alloc: Global, ring: &Arc<Ring>, script: &Script) -> Result<Session<SeedRoll>, AllocError>
     requires ring { ring.now.value.params ≡ script.now.params }
-    requires sum { IsSum (asked script.now) }
+    requires free { are_free script.now.circuits ≡ true }
+    requires few { length script.now.circuits ≤ 64 }
     requires named { AreNamed (asked script.now) }
     ensures setting { IfOk result (λ session. setting session.standing ≡ setting_asked (asked script.now)) }
     ensures master { IfOk result (λ session. session.roll.master ≡ script.now.master) }
@@ -37,9 +38,11 @@ fn opened(alloc: Global, ring: &Arc<Ring>, script: &Script) -> Result<Session<Se
 /// Runs a script's session by one caller: those that are present join, and the session is settled.
 fn run(alloc: Global, ring: &Arc<Ring>, script: &Script) -> Result<Session<SeedRoll>, AllocError>
     requires ring { ring.now.value.params ≡ script.now.params }
-    requires sum { IsSum (asked script.now) }
+    requires free { are_free script.now.circuits ≡ true }
+    requires few { length script.now.circuits ≤ 64 }
     requires named { AreNamed (asked script.now) }
     requires present { ArePresent (asked script.now) }
+    requires no_lanes { (asked script.now).lanes ≡ [] }
     ensures setting { IfOk result (λ session. setting session.standing ≡ setting_asked (asked script.now)) }
     ensures master { IfOk result (λ session. session.roll.master ≡ script.now.master) }
     ensures params { IfOk result (λ session. session.standing.params ≡ script.now.params) }
@@ -62,9 +65,11 @@ fn run(alloc: Global, ring: &Arc<Ring>, script: &Script) -> Result<Session<SeedR
 
 /// The report of a script.
 pub(crate) fn report(alloc: Global, script: &Script) -> Result<Vec<u8>, AllocError>
-    requires sum { IsSum (asked script.now) }
+    requires free { are_free script.now.circuits ≡ true }
+    requires few { length script.now.circuits ≤ 64 }
     requires named { AreNamed (asked script.now) }
     requires present { ArePresent (asked script.now) }
+    requires no_lanes { (asked script.now).lanes ≡ [] }
     ensures { IfOk result (λ text. text.items ≡ serial_report (asked script.now)) }
 {
     let ring = Arc::new(alloc, Ring::new(alloc, &script.params)?)?;

@@ -17,4 +17,4 @@ pub returns-in-Ok-clause-log : goal.returns-in-Ok-clause-log
 returns-in-Ok-clause-log c =
     let session = c.in_ok-session.session in
     c.in-Ok.ensures.run
-    ∙ history_is (asked c.args.script.now) (setting session.standing) session.log.items c.as_slice-2.result.now c.in_ok-session.ensures.setting c.in_ok-session.ensures.log c.requires.sum.lanes c.as_slice-2.ensures
+    ∙ history_is (asked c.args.script.now) (setting session.standing) session.log.items c.as_slice-2.result.now c.in_ok-session.ensures.setting c.in_ok-session.ensures.log c.requires.no_lanes c.as_slice-2.ensures
