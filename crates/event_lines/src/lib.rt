@@ -14,6 +14,3 @@ mod names;
 
 pub use events::{event_line, event_lines};
 pub use instances::instance_line;
-
-#[cfg(test)]
-mod tests;

@@ -94,50 +94,50 @@ fn gives_the_rows(rt: HostRuntime) -> Result<(), Fail> {
     Ok(())
 }
 
+/// A node behind inputs of the parties 1 and 2, the bounds of the three nodes, and that of the output.
+const OF_TWO_INPUTS: [(&str, Node, [u128; 3], u128); 5] = [
+    ("sum", Node::Add { left: 0, right: 1 }, [41, 41, 83], 85),
+    (
+        "difference",
+        Node::Sub { left: 1, right: 0 },
+        [41, 41, 83],
+        85,
+    ),
+    ("negative", Node::Neg { of: 1 }, [41, 41, 42], 44),
+    (
+        "product",
+        Node::Mul { left: 0, right: 1 },
+        [41, 41, 1_350_125],
+        1_350_127,
+    ),
+    (
+        "rotation",
+        Node::Rot { g: 3, of: 0 },
+        [41, 41, 28_602],
+        28_604,
+    ),
+];
+
+/// The factors of a product behind node 0, an input, and node 1, a constant, its bound, and that of the output.
+const PRODUCTS: [(&str, u32, u32, u128, u128); 3] = [
+    ("input times constant", 0, 1, 5040, 5042),
+    ("constant times input", 1, 0, 5040, 5042),
+    ("constant times itself", 1, 1, 120, 122),
+];
+
 #[test]
 fn admits_circuits(rt: HostRuntime) -> Result<(), Fail> {
     let alloc = rt.alloc();
     let params = Params::frame(3, 2);
-    for (name, last, bounds, output) in [
-        ("sum", Node::Add { left: 0, right: 1 }, [41, 41, 83], 85),
-        (
-            "difference",
-            Node::Sub { left: 1, right: 0 },
-            [41, 41, 83],
-            85,
-        ),
-        ("negative", Node::Neg { of: 1 }, [41, 41, 42], 44),
-        (
-            "product",
-            Node::Mul { left: 0, right: 1 },
-            [41, 41, 1_350_125],
-            1_350_127,
-        ),
-        (
-            "rotation",
-            Node::Rot { g: 3, of: 0 },
-            [41, 41, 28_602],
-            28_604,
-        ),
-    ] {
+    for (name, last, bounds, output) in OF_TWO_INPUTS {
         let nodes = vec![in alloc; Node::Input { owner: 1 }, Node::Input { owner: 2 }, last]?;
         let given = gives(alloc, &params, nodes, Ok(output), bounds.as_slice())?;
         assert!(rt; given, "{name}");
     }
-    for (name, left, right, bound) in [
-        ("input times constant", 0, 1, 5040),
-        ("constant times input", 1, 0, 5040),
-        ("constant times itself", 1, 1, 120),
-    ] {
+    for (name, left, right, bound, output) in PRODUCTS {
         let input = Node::Input { owner: 1 };
         let nodes = vec![in alloc; input, constant(alloc, 1)?, Node::Mul { left, right }]?;
-        let given = gives(
-            alloc,
-            &params,
-            nodes,
-            Ok(bound + 2),
-            [41, 0, bound].as_slice(),
-        )?;
+        let given = gives(alloc, &params, nodes, Ok(output), [41, 0, bound].as_slice())?;
         assert!(rt; given, "{name}");
     }
     let nodes = vec![in alloc;

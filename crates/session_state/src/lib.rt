@@ -28,6 +28,3 @@ pub use circuits::{Circuits, Offered};
 pub use handed::{Briefing, Listing, Taking};
 pub use places::Places;
 pub use standing::Standing;
-
-#[cfg(test)]
-mod tests;

@@ -3,7 +3,7 @@ use Rattle.session_rules.specs.States.{opening}
 use Rattle.session_spec.specs.Settings.{Setting, rules}
 use Rattle.session_state.specs.Standings.{setting, state}
 use Rattle.session_state.proofs.Openings.{opens_well}
-use Rattle.session_state.proofs.tests.opened.Goals as goal
+use Rattle.session_tests.proofs.standings.opened.Goals as goal
 
 pub returns-clause-kept : goal.returns-clause-kept
 returns-clause-kept c =

@@ -1,5 +1,5 @@
-//! The printed lines, against texts written by hand.
-use crate::{event_line, event_lines, instance_line};
+//! The lines of a report on instances and on entries of the log, against texts written by hand.
+use event_lines::{event_line, event_lines, instance_line};
 use param_set::{Ids, Slots};
 use proto_names::{Instance, PartySet, Signature, Stage};
 use session_rules::{Call, Entry, Reply};

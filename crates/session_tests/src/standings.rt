@@ -1,37 +1,17 @@
 //! A session over the sum of inputs of the parties 1 and 2 among three, of whom any two act, at its opening.
-ghost use Rattle.std.specs.Prelude.{◌≡◌, IfOk, IfSome};
+ghost use Rattle.std.specs.Prelude.{IfOk, IfSome};
 ghost use Rattle.session_rules.specs.Facts.{Kept};
 ghost use Rattle.session_rules.specs.Runs.{Grounded};
-ghost use Rattle.session_spec.specs.Settings.{Keeps};
 ghost use Rattle.session_state.specs.Standings.{rules_of, state};
 
-use crate::{Circuits, Offered, Standing};
-use circuit_form::{Circuit, Node};
+use crate::common::one_sum;
 use mod_ring::{Ciphertext, Ring, zero};
 use param_set::Params;
 use session_rules::{CircuitState, Reply};
+use session_state::Standing;
 use std::alloc::{AllocError, Global};
 use std::sync::Arc;
 use std::test::Fail;
-
-/// The sum of an input of party 1 and one of party 2.
-#[tactic(auto, unfolding(cipher_spec::specs::Ciphers::is_switch_free))]
-fn sum(alloc: Global, params: &Params) -> Result<Option<Offered>, AllocError>
-    ensures { IfOk result (λ offered. IfSome offered (λ o. Keeps params.now o)) }
-{
-    let nodes = vec![in alloc;
-        Node::Input { owner: 1 },
-        Node::Input { owner: 2 },
-        Node::Add { left: 0, right: 1 },
-    ]?;
-    match Circuit::new(params, nodes) {
-        Err(_) => Ok(None),
-        Ok(circuit) => Ok(Some(Offered {
-            circuit: Arc::new(alloc, circuit)?,
-            values: None,
-        })),
-    }
-}
 
 /// A session over that circuit alone.
 fn opened(alloc: Global) -> Result<Option<Standing>, AllocError>
@@ -40,11 +20,9 @@ fn opened(alloc: Global) -> Result<Option<Standing>, AllocError>
 {
     let params = Params::frame(3, 2);
     let ring = Arc::new(alloc, Ring::new(alloc, &params)?)?;
-    let Some(offered) = sum(alloc, &params)? else {
+    let Some(circuits) = one_sum(alloc, &params)? else {
         return Ok(None);
     };
-    let mut circuits = Circuits::new(alloc);
-    circuits.push(offered)?;
     let public = [7; 32];
     Ok(Some(Standing::new(alloc, ring, public, circuits)?))
 }

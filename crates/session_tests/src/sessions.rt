@@ -4,12 +4,11 @@ ghost use Rattle.std.specs.Prelude.{◌≡◌, ◌^◌, ◌<◌, ◌≤◌, leng
 ghost use Rattle.bfv_core.specs.Fits.{CipherFits};
 ghost use Rattle.ring_spec.specs.Ring.{IsPoly};
 
-use crate::{Call, Circuits, Offered, Reply, Session, Share, Stop};
-use circuit_form::{Circuit, Node};
-use circuit_runner::is_switch_free;
+use crate::common::one_sum;
 use mod_ring::{Ciphertext, Polys, Ring, of_signed, zero};
 use param_set::Params;
 use party_roll::NoRoll;
+use session_core::{Call, Reply, Session, Share, Stop};
 use std::alloc::{AllocError, Global};
 use std::sync::Arc;
 use std::test::Fail;
@@ -61,23 +60,9 @@ fn open(alloc: Global, max_calls: u32) -> Result<Option<Session<NoRoll>>, Fail>
     ensures parties { IfOk result (λ made. IfSome made (λ s. s.standing.params.parties ≡ 3)) }
 {
     let params = Params::frame(3, 2);
-    let nodes = vec![in alloc;
-        Node::Input { owner: 1 },
-        Node::Input { owner: 2 },
-        Node::Add { left: 0, right: 1 },
-    ]?;
-    let circuit = match Circuit::new(&params, nodes) {
-        Ok(circuit) => circuit,
-        Err(_) => return Ok(None),
-    };
-    if !is_switch_free(&circuit) {
+    let Some(circuits) = one_sum(alloc, &params)? else {
         return Ok(None);
-    }
-    let mut circuits = Circuits::new(alloc);
-    circuits.push(Offered {
-        circuit: Arc::new(alloc, circuit)?,
-        values: None,
-    })?;
+    };
     let ring = Arc::new(alloc, Ring::new(alloc, &params)?)?;
     let roll = NoRoll::new([0; 32]);
     Ok(Some(Session::new(alloc, roll, ring, circuits, max_calls)?))

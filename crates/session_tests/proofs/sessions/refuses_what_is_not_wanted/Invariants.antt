@@ -1,5 +1,5 @@
 use Rattle.std.proofs.Common.{◌≡◌}
-use Rattle.session_core.proofs.tests.adds_up_what_was_delivered.Given as goal
+use Rattle.session_tests.proofs.sessions.refuses_what_is_not_wanted.Given as goal
 
 abbrev pub invariant-calls : goal.invariant-calls
 invariant-calls g l = record {

@@ -1,5 +1,5 @@
 use Rattle.std.proofs.Common.{◌≡◌}
-use Rattle.session_core.proofs.tests.ends_with_its_last_call.Given as goal
+use Rattle.session_tests.proofs.sessions.ends_with_its_last_call.Given as goal
 
 abbrev pub invariant-calls : goal.invariant-calls
 invariant-calls g l = record {
