@@ -1,6 +1,7 @@
 #!/bin/sh
-# Runs each example with the built program, and compares what it writes, and its status, with the
-# report and the status that lie beside it (no status: 0).
+# Runs each example NAME.helium with the built program, and compares what it writes with NAME.stdout and
+# its status with NAME.status (no such file: 0). The words are those of NAME.args, one a line (no such
+# file: run --serial).
 cd "$(dirname "$0")" || exit 1
 passed=0
 failed=0
@@ -10,14 +11,21 @@ for script in *.helium; do
     name=${script%.helium}
     want=0
     [ -f "$name.status" ] && want=$(cat "$name.status")
-    ../helium run --serial <"$script" >"$out"
+    set -- run --serial
+    if [ -f "$name.args" ]; then
+        set --
+        while IFS= read -r word; do
+            set -- "$@" "$word"
+        done <"$name.args"
+    fi
+    ../helium "$@" <"$script" >"$out"
     got=$?
-    if [ "$got" -eq "$want" ] && cmp -s "$out" "$name.report"; then
+    if [ "$got" -eq "$want" ] && cmp -s "$out" "$name.stdout"; then
         passed=$((passed + 1))
     else
         failed=$((failed + 1))
-        echo "example $name: status $got, wanted $want, or another report:"
-        diff "$name.report" "$out"
+        echo "example $name: status $got, wanted $want, or another text:"
+        diff "$name.stdout" "$out"
     fi
 done
 echo "$passed passed, $failed failed"
