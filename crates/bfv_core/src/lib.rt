@@ -15,6 +15,3 @@ pub use cipher::{copied, encrypt, phase};
 pub use mod_ring::{Ciphertext, PublicKey};
 pub use operations::{add, mul_plain, neg, sub, trivial};
 pub use plain::round_phase;
-
-#[cfg(test)]
-mod tests;

@@ -23,6 +23,3 @@ pub use fault::CircuitFault;
 pub use node::Node;
 pub use param_set::{Plain, Plains};
 pub use values::plain_value;
-
-#[cfg(test)]
-mod tests;

@@ -17,6 +17,3 @@ mod steps;
 pub use free::is_switch_free;
 pub use inputs::Inputs;
 pub use job::{Job, evaluate};
-
-#[cfg(test)]
-mod tests;

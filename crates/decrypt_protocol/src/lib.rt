@@ -12,6 +12,3 @@ mod share;
 
 pub use finish::dec_finish;
 pub use share::dec_share;
-
-#[cfg(test)]
-mod tests;

@@ -20,6 +20,3 @@ pub use brief::Brief;
 pub use proto_names::{Instance, Stage};
 pub use share::{Count, Share};
 pub use table::Table;
-
-#[cfg(test)]
-mod tests;

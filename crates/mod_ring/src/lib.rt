@@ -21,6 +21,3 @@ pub use ring::{
     Ring, add_into, add_into_row, mul, neg_into, of_residues, of_signed, scale_into, sub_into, zero,
 };
 pub use signs::{centre, residue_of};
-
-#[cfg(test)]
-mod tests;

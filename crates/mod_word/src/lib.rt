@@ -14,6 +14,3 @@ mod words;
 
 pub use multiples::Factor;
 pub use residues::Modulus;
-
-#[cfg(test)]
-mod tests;

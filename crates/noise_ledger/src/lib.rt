@@ -19,6 +19,3 @@ pub use bounds::{
 };
 pub use ledger::admit;
 pub use over::{Over, Place};
-
-#[cfg(test)]
-mod tests;

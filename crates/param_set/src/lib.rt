@@ -21,6 +21,3 @@ pub use ids::{Ids, Slots};
 pub use params::Params;
 pub use plain::{Plain, Plains};
 pub use raw::{Field, RawParams};
-
-#[cfg(test)]
-mod tests;

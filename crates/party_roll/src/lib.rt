@@ -14,8 +14,6 @@ mod points;
 mod roll;
 mod seed_party;
 mod seeds;
-#[cfg(test)]
-mod tests;
 mod values;
 
 pub use party::Party;

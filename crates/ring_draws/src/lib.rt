@@ -10,6 +10,3 @@ mod fill;
 mod sample;
 
 pub use sample::{small, ternary, uniform, wide};
-
-#[cfg(test)]
-mod tests;

@@ -12,8 +12,6 @@ mod backward;
 mod fault;
 mod forward;
 mod tables;
-#[cfg(test)]
-mod tests;
 mod twiddles;
 mod words;
 

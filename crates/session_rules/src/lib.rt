@@ -35,6 +35,3 @@ pub use planning::planned_moves;
 pub use ready::{is_ready, next_ready};
 pub use reply::Reply;
 pub use state::CircuitState;
-
-#[cfg(test)]
-mod tests;

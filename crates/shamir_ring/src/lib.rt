@@ -15,6 +15,3 @@ mod values;
 pub use dealing::Dealing;
 pub use parts::{additive, combine, reconstruct};
 pub use ratios::lagrange;
-
-#[cfg(test)]
-mod tests;

@@ -9,6 +9,3 @@
 mod tape;
 
 pub use tape::Tape;
-
-#[cfg(test)]
-mod tests;

@@ -1,0 +1,24 @@
+//! The tests of the crates of words, numbers and polynomials, each against values from outside.
+//!
+//! A file a subject. They stand apart from the crates that they are about because a crate with tests is proved
+//! twice. No code stands here, and nothing else uses this crate.
+#![tactic(auto)]
+
+#[cfg(test)]
+mod draws;
+#[cfg(test)]
+mod edges;
+#[cfg(test)]
+mod inverses;
+#[cfg(test)]
+mod parameters;
+#[cfg(test)]
+mod party_sets;
+#[cfg(test)]
+mod ring;
+#[cfg(test)]
+mod tapes;
+#[cfg(test)]
+mod transforms;
+#[cfg(test)]
+mod words;

@@ -1,0 +1,143 @@
+//! Products by transforms, against the sums that define them.
+
+ghost use Rattle.std.specs.Prelude.{◌≡◌, ◌<◌, IfOk};
+ghost use Rattle.ring_spec.specs.Ring.{IsPoly, ring_product};
+
+use ring_ntt::{NttFault, Tables};
+use std::alloc::{AllocError, Global};
+use std::process::Abort;
+use std::test::Fail;
+
+/// A modulus, a number whose n-th power is -1, and the length n. The last two moduli are composite.
+const CASES: [(u64, u64, u64); 5] = [
+    (17, 13, 2),
+    (31525197391593473, 1791537114801093, 8),
+    (31525197391593473, 17302343124140353, 64),
+    (9839901637616593, 8145602877352104, 8),
+    (6810591325885313, 5073007910005902, 64),
+];
+
+fn tables_for<R: Abort>(rt: &R, alloc: Global, q: u64, n: u64, psi: u64) -> Result<Tables, NttFault>
+    ensures { IfOk result (λ t. (t.modulus ≡ q) × (t.length ≡ n)) }
+{
+    assert!(rt; q % 2 == 1);
+    assert!(rt; q >= 3);
+    assert!(rt; q <= 4611686018427387904);
+    assert!(rt; n >= 2);
+    assert!(rt; n <= 4096);
+    assert!(rt; n.is_power_of_two());
+    assert!(rt; psi < q);
+    Tables::new(alloc, q, n, psi)
+}
+
+/// The product, in place of a: all that a caller needs stands in the contracts of the four calls.
+fn multiply(tables: &Tables, a: &mut [u64], b: &mut [u64])
+    requires left { IsPoly tables.now.modulus tables.now.length a.old }
+    requires right { IsPoly tables.now.modulus tables.now.length b.old }
+    ensures product { a.new ≡ ring_product tables.now.modulus tables.now.length a.old b.old }
+    ensures left_length { IsPoly tables.now.modulus tables.now.length a.new }
+{
+    tables.forward(a);
+    tables.forward(b);
+    tables.multiply_into(a, b);
+    tables.inverse(a);
+}
+
+/// x * y modulo q.
+fn product(x: u64, y: u64, q: u64) -> u64
+    requires { 0 < q }
+    ensures { result < q }
+{
+    (x as u128 * y as u128 % q as u128) as u64
+}
+
+/// n residues, each a multiple of the one before it.
+fn sample(alloc: Global, q: u64, n: u64, first: u64) -> Result<Vec<u64>, AllocError>
+    requires { 0 < q }
+    ensures { IfOk result (λ f. IsPoly q n f.items) }
+{
+    let mut f = Vec::new(alloc);
+    let mut x = first;
+    'entries: for k in 0..n {
+        x = product(x, 6364136223846793005, q);
+        f.push(x)?;
+    }
+    Ok(f)
+}
+
+/// X to the power `place`.
+fn monomial(alloc: Global, q: u64, n: u64, place: u64) -> Result<Vec<u64>, AllocError>
+    requires { 1 < q }
+    ensures { IfOk result (λ f. IsPoly q n f.items) }
+{
+    let mut f = Vec::new(alloc);
+    'entries: for k in 0..n {
+        f.push(if k == place { 1 } else { 0 })?;
+    }
+    Ok(f)
+}
+
+/// The coefficient at k of the product, by its definition.
+fn coefficient(f: &[u64], g: &[u64], k: usize, q: u64) -> u64
+    requires { 0 < q }
+{
+    let mut sum = 0;
+    for (i, x) in f.iter().enumerate() {
+        let (j, wraps) = if i <= k {
+            (k - i, false)
+        } else {
+            (f.len().saturating_sub(i - k), true)
+        };
+        let term = product(*x, g.get(j).copied().unwrap_or(0), q);
+        let signed = if wraps { q - term } else { term };
+        sum = ((sum as u128 + signed as u128) % q as u128) as u64;
+    }
+    sum
+}
+
+/// Compares a product by transforms with the sums.
+fn agrees<R: Abort>(rt: &R, alloc: Global, q: u64, psi: u64, n: u64) -> Result<(), Fail> {
+    assert!(rt; q > 1);
+    let tables = tables_for(rt, alloc, q, n, psi)?;
+    let f = sample(alloc, q, n, 3)?;
+    let mut a = sample(alloc, q, n, 3)?;
+    let mut b = sample(alloc, q, n, 5)?;
+    let g = sample(alloc, q, n, 5)?;
+    multiply(&tables, a.as_mut_slice(), b.as_mut_slice());
+    for (k, x) in a.iter().enumerate() {
+        assert_eq!(rt;
+            *x,
+            coefficient(f.as_slice(), g.as_slice(), k, q),
+            "at {k} modulo {q}"
+        );
+    }
+    Ok(())
+}
+
+/// Compares X^(n-1) times X with -1.
+fn wraps<R: Abort>(rt: &R, alloc: Global, q: u64, psi: u64, n: u64) -> Result<(), Fail> {
+    assert!(rt; q > 1);
+    let tables = tables_for(rt, alloc, q, n, psi)?;
+    let mut a = monomial(alloc, q, n, n - 1)?;
+    let mut b = monomial(alloc, q, n, 1)?;
+    multiply(&tables, a.as_mut_slice(), b.as_mut_slice());
+    for (k, x) in a.iter().enumerate() {
+        assert_eq!(rt; *x, if k == 0 { q - 1 } else { 0 }, "at {k} modulo {q}");
+    }
+    Ok(())
+}
+
+#[test]
+fn products(rt: HostRuntime) -> Result<(), Fail> {
+    for (q, psi, n) in CASES {
+        agrees(&rt, rt.alloc(), q, psi, n)?;
+        wraps(&rt, rt.alloc(), q, psi, n)?;
+    }
+    Ok(())
+}
+
+#[test]
+fn no_root(rt: HostRuntime) {
+    let refused = tables_for(&rt, rt.alloc(), 17, 8, 4);
+    assert!(rt; matches!(refused, Err(NttFault::NoRoot { value: 1 })));
+}

@@ -1,0 +1,157 @@
+//! Small values worked out by hand, over the ring with n = 8, q = 31525197391593473 and t = 16, whose
+//! D is 1970324836974592.
+ghost use Rattle.std.specs.Prelude.{◌≡◌, ◌<◌, All, IfOk};
+ghost use Rattle.ring_spec.specs.Ring.{IsPoly};
+ghost use Rattle.bfv_core.specs.Fits.{CipherFits};
+
+use bfv_core::{Ciphertext, add, mul_plain, neg, round_phase, sub, trivial};
+use mod_ring::{Ring, of_signed};
+use param_set::{Params, Plain};
+use std::alloc::{AllocError, Global};
+use std::test::Fail;
+
+const Q: u64 = 31_525_197_391_593_473;
+
+const ZERO: [u64; 8] = [0; 8];
+
+/// A plaintext of the ring.
+fn plain(alloc: Global, ring: &Ring, coeffs: [u64; 8]) -> Result<Plain, AllocError>
+    requires degree { ring.now.params.n ≡ 8 }
+    requires below { All (λ x. x < ring.now.params.t) coeffs }
+    ensures { IfOk result (λ m. IsPoly ring.now.params.t ring.now.params.n m) }
+{
+    Ok(Plain::from_vec(Vec::from_slice(alloc, coeffs.as_slice())?))
+}
+
+/// The ciphertext with these two parts.
+fn cipher(alloc: Global, ring: &Ring, c0: [i64; 8], c1: [i64; 8]) -> Result<Ciphertext, AllocError>
+    requires { ring.now.params.n ≡ 8 }
+    ensures { IfOk result (λ c. CipherFits ring.now.params.q ring.now.params.n c) }
+{
+    let c0 = of_signed(alloc, ring, c0.as_slice())?;
+    let c1 = of_signed(alloc, ring, c1.as_slice())?;
+    Ok(Ciphertext { c0, c1 })
+}
+
+/// Whether a ciphertext has these two parts.
+fn is(c: &Ciphertext, c0: [u64; 8], c1: [u64; 8]) -> bool {
+    c.c0.coeffs() == c0.as_slice() && c.c1.coeffs() == c1.as_slice()
+}
+
+#[test]
+fn scales_a_plaintext(rt: HostRuntime) -> Result<(), Fail> {
+    let alloc = rt.alloc();
+    let ring = Ring::new(alloc, &Params::frame(3, 2))?;
+    let one = trivial(
+        alloc,
+        &ring,
+        &plain(alloc, &ring, [1, 0, 0, 0, 0, 0, 0, 0])?,
+    )?;
+    assert!(rt;
+        is(&one, [1_970_324_836_974_592, 0, 0, 0, 0, 0, 0, 0], ZERO),
+        "one"
+    );
+    let m = [15, 0, 7, 8, 0, 0, 0, 2];
+    let some = trivial(alloc, &ring, &plain(alloc, &ring, m)?)?;
+    let c0 = [
+        29_554_872_554_618_880,
+        0,
+        13_792_273_858_822_144,
+        15_762_598_695_796_736,
+        0,
+        0,
+        0,
+        3_940_649_673_949_184,
+    ];
+    assert!(rt; is(&some, c0, ZERO), "some");
+    assert_eq!(rt; round_phase(alloc, &ring, &some.c0)?.coeffs(), m.as_slice());
+    Ok(())
+}
+
+#[test]
+fn adds_and_subtracts_part_by_part(rt: HostRuntime) -> Result<(), Fail> {
+    let alloc = rt.alloc();
+    let ring = Ring::new(alloc, &Params::frame(3, 2))?;
+    let c = cipher(
+        alloc,
+        &ring,
+        [1, 2, 0, 0, 0, 0, 0, -1],
+        [5, 0, 0, 0, 0, 0, 0, 0],
+    )?;
+    let d = cipher(
+        alloc,
+        &ring,
+        [3, 0, 0, 0, 0, 0, 0, 1],
+        [0, -2, 0, 0, 0, 0, 0, 0],
+    )?;
+    let sum = add(alloc, &ring, &c, &d)?;
+    assert!(rt;
+        is(&sum, [4, 2, 0, 0, 0, 0, 0, 0], [5, Q - 2, 0, 0, 0, 0, 0, 0]),
+        "sum"
+    );
+    let less = sub(alloc, &ring, &c, &d)?;
+    assert!(rt;
+        is(
+            &less,
+            [Q - 2, 2, 0, 0, 0, 0, 0, Q - 2],
+            [5, 2, 0, 0, 0, 0, 0, 0]
+        ),
+        "less"
+    );
+    assert!(rt; is(&sub(alloc, &ring, &c, &c)?, ZERO, ZERO), "none");
+    Ok(())
+}
+
+#[test]
+fn takes_the_negative_of_both_parts(rt: HostRuntime) -> Result<(), Fail> {
+    let alloc = rt.alloc();
+    let ring = Ring::new(alloc, &Params::frame(3, 2))?;
+    let c = cipher(
+        alloc,
+        &ring,
+        [1, 2, 0, 0, 0, 0, 0, -1],
+        [5, 0, 0, 0, 0, 0, 0, 0],
+    )?;
+    let once = neg(alloc, &ring, &c)?;
+    assert!(rt;
+        is(
+            &once,
+            [Q - 1, Q - 2, 0, 0, 0, 0, 0, 1],
+            [Q - 5, 0, 0, 0, 0, 0, 0, 0]
+        ),
+        "once"
+    );
+    let twice = neg(alloc, &ring, &once)?;
+    assert!(rt;
+        is(
+            &twice,
+            [1, 2, 0, 0, 0, 0, 0, Q - 1],
+            [5, 0, 0, 0, 0, 0, 0, 0]
+        ),
+        "twice"
+    );
+    Ok(())
+}
+
+#[test]
+fn turns_by_a_multiple_of_x(rt: HostRuntime) -> Result<(), Fail> {
+    let alloc = rt.alloc();
+    let ring = Ring::new(alloc, &Params::frame(3, 2))?;
+    let c = cipher(
+        alloc,
+        &ring,
+        [1, 2, 0, 0, 0, 0, 0, 4],
+        [5, 0, 0, 0, 0, 0, 0, -3],
+    )?;
+    let x = plain(alloc, &ring, [0, 1, 0, 0, 0, 0, 0, 0])?;
+    let turned = mul_plain(alloc, &ring, &c, &x)?;
+    assert!(rt;
+        is(
+            &turned,
+            [Q - 4, 1, 2, 0, 0, 0, 0, 0],
+            [3, 5, 0, 0, 0, 0, 0, 0]
+        ),
+        "turned"
+    );
+    Ok(())
+}

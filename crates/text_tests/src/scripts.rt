@@ -1,0 +1,268 @@
+//! Whole scripts, and lines that are refused for each reason.
+use crate::samples::{SEED, THREE, read};
+use param_set::Field;
+use session_script::{Line, Reason, Script, ScriptStop};
+use std::alloc::{AllocError, Global};
+use std::test::Fail;
+
+const BASE: [&str; 10] = [
+    "helium 1",
+    THREE,
+    SEED,
+    "present 1 2 3",
+    "circuit c",
+    "input 1 3 0 1",
+    "input 2 5",
+    "add 0 1",
+    "end",
+    "done",
+];
+
+// The base script with `text` in place of a line, or behind all lines.
+fn changed(alloc: Global, line: usize, text: &str) -> Result<String, AllocError> {
+    let mut script = String::new(alloc);
+    for k in 0..BASE.len() {
+        script.push_str(if k + 1 == line { text } else { BASE[k] })?;
+        script.push('\n')?;
+    }
+    if line > BASE.len() {
+        script.push_str(text)?;
+    }
+    Ok(script)
+}
+
+const ABOVE_N: Reason = Reason::Params {
+    field: Field::Threshold,
+    value: 4,
+};
+
+// Line, what stands in its place, the line that is refused, and why.
+const REFUSED: [(usize, &str, u32, Reason); 44] = [
+    (1, "\u{7f}", 1, Reason::Byte),
+    (5, "circuit\tc", 5, Reason::Byte),
+    (11, "#\n\t", 12, Reason::Byte),
+    (1, "helium", 1, Reason::Word),
+    (1, "Helium 1", 1, Reason::Word),
+    (4, "presents 1", 4, Reason::Word),
+    (5, "circuit c\nneg", 6, Reason::Word),
+    (6, "input 1", 6, Reason::Word),
+    (8, "add 0", 8, Reason::Word),
+    (8, "add 0 1 1", 8, Reason::Word),
+    (9, "lane", 9, Reason::Word),
+    (9, "end\nlane\nend\nworkers 8 256\nlane", 13, Reason::Word),
+    (11, "x", 11, Reason::Word),
+    (1, "helium 01", 1, Reason::Number),
+    (1, "helium 18446744073709551616", 1, Reason::Number),
+    (6, "input 1 -0", 6, Reason::Number),
+    (1, "helium 2", 1, Reason::Version),
+    (9, "end\nworkers 9 0", 10, Reason::Limit),
+    (9, "end\nworkers 0 257", 10, Reason::Limit),
+    (2, "params 8 31525197391593473 16 3 8 1 1 3 4", 2, ABOVE_N),
+    (
+        2,
+        "params 8 31525197391593473 16 2 8 1 1 3 2",
+        2,
+        Reason::NoRoot { value: 1 },
+    ),
+    (3, "seed 00", 3, Reason::Seed),
+    (5, "circuit C", 5, Reason::Name),
+    (5, "circuit _", 5, Reason::Name),
+    (5, "circuit abcdefghijklmnopq", 5, Reason::Name),
+    (9, "end\ncircuit c", 10, Reason::Name),
+    (4, "present 2 1", 4, Reason::Party),
+    (4, "present 2 2", 4, Reason::Party),
+    (4, "present 0 1", 4, Reason::Party),
+    (4, "present 1 4", 4, Reason::Party),
+    (6, "input 0 1", 6, Reason::Party),
+    (6, "input 4 16", 6, Reason::Party),
+    (6, "input 4294967297 1", 6, Reason::Party),
+    (9, "end\nlane\nlose 4", 11, Reason::Party),
+    (9, "end\n\n# lanes\nlane\nhold 1 0", 13, Reason::Id),
+    (9, "end\nlane\nhold 1 4294967296", 11, Reason::Id),
+    (6, "input 1 16", 6, Reason::Node),
+    (6, "input 1 0 0 0 0 0 0 0 0 0", 6, Reason::Node),
+    (6, "end", 6, Reason::Node),
+    (8, "add 0 2", 8, Reason::Node),
+    (8, "rot 4 0", 8, Reason::Node),
+    (8, "rot 17 0", 8, Reason::Node),
+    (10, "#", 11, Reason::End),
+    (10, "", 11, Reason::End),
+];
+
+// Whether the text is refused in this line and for this reason.
+fn is_refused(alloc: Global, text: &str, at: u32, wanted: Reason) -> bool {
+    match read(alloc, text) {
+        Err(ScriptStop::Refused { line, reason }) => line == at && reason == wanted,
+        _ => false,
+    }
+}
+
+#[test]
+fn refuses_by_each_reason(rt: HostRuntime) -> Result<(), Fail> {
+    let alloc = rt.alloc();
+    for (line, text, at, wanted) in REFUSED {
+        let script = changed(alloc, line, text)?;
+        assert!(rt; is_refused(alloc, &script, at, wanted), "{line}: {text}");
+    }
+    assert!(rt; is_refused(alloc, "", 1, Reason::End));
+    Ok(())
+}
+
+// The base script with a text again and again before its line `line`, which is `last`.
+fn repeated(
+    alloc: Global,
+    line: usize,
+    last: &str,
+    text: &str,
+    count: u32,
+) -> Result<String, AllocError> {
+    let mut lines = String::new(alloc);
+    for _ in 0..count {
+        lines.push_str(text)?;
+    }
+    lines.push_str(last)?;
+    changed(alloc, line, &lines)
+}
+
+#[test]
+fn refuses_one_too_many(rt: HostRuntime) -> Result<(), Fail> {
+    let alloc = rt.alloc();
+    // The line, what it is, what stands before it, how often it may, one more, and the line that is refused then.
+    let rows = [
+        (9, "end", "neg 0\n", 253, 254, 262),
+        (10, "done", "lane\nend\n", 8, 9, 26),
+    ];
+    for (line, last, text, most, too_many, at) in rows {
+        let full = repeated(alloc, line, last, text, most)?;
+        assert!(rt; matches!(&read(alloc, &full), Ok(_)), "{text}");
+        let over = repeated(alloc, line, last, text, too_many)?;
+        assert!(rt; is_refused(alloc, &over, at, Reason::Limit), "{text}");
+    }
+    Ok(())
+}
+
+// The base script asks for one circuit, and its last line may lack its line feed.
+#[test]
+fn reads_the_base(rt: HostRuntime) -> Result<(), Fail> {
+    let alloc = rt.alloc();
+    let text = changed(alloc, 11, "")?;
+    let cut = text.trim_end_matches('\n');
+    for text in [text.as_str(), cut] {
+        let script = read(alloc, text)?;
+        assert_eq!(rt; script.params.parties(), 3);
+        assert_eq!(rt; script.params.psi(), 1_791_537_114_801_093);
+        assert_eq!(rt; script.lanes.len(), 0);
+        assert_eq!(rt; script.circuits.len(), 1);
+        let named = &script.circuits.as_slice()[0];
+        assert_eq!(rt; named.name(), b"c".as_slice());
+        assert_eq!(rt; named.circuit().owner(0), Some(1));
+        assert_eq!(rt; named.circuit().owner(1), Some(2));
+        assert_eq!(rt; named.values().len(), 2);
+        let [first, second] = [[3, 0, 1, 0, 0, 0, 0, 0], [5, 0, 0, 0, 0, 0, 0, 0]];
+        assert_eq!(rt; named.values().at(0).coeffs(), first.as_slice());
+        assert_eq!(rt; named.values().at(1).coeffs(), second.as_slice());
+    }
+    Ok(())
+}
+
+const WHOLE: &str = "# every statement\n\nhelium 1
+params 8 31525197391593473 16 3 8 1 1 3 2
+seed 00000000000000000000000000000000000000000000000000000000000000Ff
+present 1  3
+circuit a_1
+input 1 3 0 1
+const 2
+add 0 1
+sub 2 0
+neg 3
+mul 4 1
+rot 3 5
+end
+circuit b
+ input 2 15
+end
+lane
+join 2
+lose 1
+send 3
+hold 2 4294967295
+give
+work
+quit
+end
+lane
+end
+workers 2 3
+done
+# nothing else";
+
+// The script of every statement.
+fn whole(alloc: Global) -> Result<Script, ScriptStop> {
+    read(alloc, WHOLE)
+}
+
+#[test]
+fn reads_every_statement(rt: HostRuntime) -> Result<(), Fail> {
+    let script = whole(rt.alloc())?;
+    assert_eq!(rt; script.version, 1);
+    assert_eq!(rt; script.params.threshold(), 2);
+    assert_eq!(rt; script.master[31], 255);
+    assert_eq!(rt; script.present.as_slice(), [1, 3].as_slice());
+    assert_eq!(rt; script.circuits.len(), 2);
+    let names = [b"a_1".as_slice(), b"b".as_slice()];
+    let values = [[3, 0, 1, 0, 0, 0, 0, 0], [15, 0, 0, 0, 0, 0, 0, 0]];
+    let nodes = [7, 1];
+    let mut k = 0usize;
+    for named in script.circuits.as_slice() {
+        assert!(rt; k < 2);
+        assert_eq!(rt; named.name(), names[k]);
+        assert_eq!(rt; named.circuit().len(), nodes[k]);
+        assert_eq!(rt; named.values().len(), 1);
+        assert_eq!(rt; named.values().at(0).coeffs(), values[k].as_slice());
+        k += 1;
+    }
+    Ok(())
+}
+
+#[test]
+fn reads_lanes_and_workers(rt: HostRuntime) -> Result<(), Fail> {
+    let script = whole(rt.alloc())?;
+    let written = [
+        Line::Join { p: 2 },
+        Line::Lose { p: 1 },
+        Line::Send { p: 3 },
+        Line::Hold {
+            p: 2,
+            id: 4_294_967_295,
+        },
+        Line::Give,
+        Line::Work,
+        Line::Quit,
+    ];
+    let work = [Line::Work, Line::Work, Line::Work];
+    let lanes = script.lanes.as_slice();
+    assert_eq!(rt; lanes.len(), 4);
+    assert_eq!(rt; lanes[0].as_slice(), written.as_slice());
+    assert_eq!(rt; lanes[1].as_slice().len(), 0);
+    assert_eq!(rt; lanes[2].as_slice(), work.as_slice());
+    assert_eq!(rt; lanes[3].as_slice(), work.as_slice());
+    Ok(())
+}
+
+#[test]
+fn refuses_long_texts(rt: HostRuntime) -> Result<(), Fail> {
+    let alloc = rt.alloc();
+    let rows = [
+        ('\n', 1_048_577, Reason::End),
+        (' ', 2, Reason::End),
+        ('0', 1, Reason::Word),
+    ];
+    for (filler, at, wanted) in rows {
+        let mut long = String::new(alloc);
+        for _ in 0..1_048_576u32 {
+            long.push(filler)?;
+        }
+        assert!(rt; is_refused(alloc, &long, at, wanted), "{filler}");
+    }
+    Ok(())
+}
