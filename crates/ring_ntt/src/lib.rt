@@ -4,7 +4,7 @@
 //! its values at the odd powers of psi, `inverse` takes it back, and between them a product of
 //! polynomials is a product entry by entry, `multiply_into`. The steps are those of Harvey, "Faster
 //! arithmetic for number-theoretic transforms" (2014): butterflies in place, with no division and no
-//! allocation; docs/MATHEMATICS-transforms.md has the argument. Callers may rely on the exact values
+//! allocation; docs/MATHEMATICS.md has the argument. Callers may rely on the exact values
 //! and on the law of products, for every odd q up to 2^62, prime or not. Nothing is said of time.
 #![tactic(auto)]
 
