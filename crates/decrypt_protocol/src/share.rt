@@ -1,19 +1,12 @@
 ghost use Rattle.std.specs.Prelude.{◌≡◌, ℕ, [], ◌∷◌, All, IfOk};
 ghost use Rattle.ring_spec.specs.Ring.{IsPoly};
-ghost use Rattle.draw_spec.specs.Streams.{instance_stream};
 ghost use Rattle.dec_spec.specs.Decrypting.{flood as flood_of, honest_dec};
 
 use mod_ring::{Poly, Polys, Ring, add_into, mul};
+use proto_names::instance_stream;
 use ring_draws::wide;
 use std::alloc::{AllocError, Global};
 use word_tape::Tape;
-
-/// The stream of an instance.
-fn stream_of(id: u32) -> u64
-    ensures { result ≡ instance_stream id }
-{
-    72_057_594_037_927_936 + u64::from(id)
-}
 
 /// The flood of a party's share, from the party's stream of the instance.
 fn flood(alloc: Global, ring: &Ring, seed: [u8; 32], id: u32) -> Result<Poly, AllocError>
@@ -24,7 +17,7 @@ fn flood(alloc: Global, ring: &Ring, seed: [u8; 32], id: u32) -> Result<Poly, Al
         alloc,
         ring,
         ring.params().flood(),
-        &mut Tape::new(seed, stream_of(id)),
+        &mut Tape::new(seed, instance_stream(id)),
     )
 }
 

@@ -1,19 +1,12 @@
 ghost use Rattle.std.specs.Prelude.{◌≡◌, ℕ, ◌+◌, ◌^◌, IfOk, All};
 ghost use Rattle.ring_spec.specs.Ring.{IsPoly};
-ghost use Rattle.draw_spec.specs.Streams.{instance_stream};
 ghost use Rattle.bfv_spec.specs.Shares.{common_poly, common_polys};
 
 use mod_ring::{Poly, Polys, Ring};
+use proto_names::instance_stream;
 use ring_draws::uniform;
 use std::alloc::{AllocError, Global};
 use word_tape::Tape;
-
-/// The stream of an instance.
-pub(crate) fn stream_of(id: u32) -> u64
-    ensures { result ≡ instance_stream id }
-{
-    72_057_594_037_927_936 + u64::from(id)
-}
 
 /// The common polynomial of an instance's first row.
 pub(crate) fn first_common(
@@ -25,7 +18,7 @@ pub(crate) fn first_common(
     ensures value { IfOk result (λ a. a ≡ common_poly ring.now.params.q ring.now.params.n public id 0) }
     ensures fits { IfOk result (λ a. IsPoly ring.now.params.q ring.now.params.n a) }
 {
-    uniform(alloc, ring, &mut Tape::new(public, stream_of(id)))
+    uniform(alloc, ring, &mut Tape::new(public, instance_stream(id)))
 }
 
 /// The common polynomials of an instance's first rows, one behind the other in the public seed's
@@ -40,7 +33,7 @@ pub fn common(
     ensures value { IfOk result (λ polys. polys ≡ common_polys ring.now.params.q ring.now.params.n public id rows) }
     ensures fits { IfOk result (λ polys. All (IsPoly ring.now.params.q ring.now.params.n) polys) }
 {
-    let mut tape = Tape::new(public, stream_of(id));
+    let mut tape = Tape::new(public, instance_stream(id));
     let mut polys = Polys::new(alloc);
     for row in 0..rows {
         polys.push(uniform(alloc, ring, &mut tape)?)?;

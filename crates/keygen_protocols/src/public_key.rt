@@ -1,28 +1,29 @@
 ghost use Rattle.std.specs.Prelude.{◌≡◌, ℕ, [], ◌∷◌, length, slice_index_or, All, IfOk};
 ghost use Rattle.ring_spec.specs.Ring.{IsPoly};
-ghost use Rattle.draw_spec.specs.Streams.{instance_stream};
+ghost use Rattle.draw_spec.specs.Streams.{instance_stream as stream_of_instance};
 ghost use Rattle.bfv_spec.specs.Drawn.{small_poly};
 ghost use Rattle.bfv_spec.specs.Shares.{common_poly, honest_pk, pk_from};
 ghost use Rattle.bfv_core.specs.Fits.{KeyFits};
 ghost use Rattle.keygen_protocols.specs.Together.{IsKeyOfAll};
 
-use crate::commons::{first_common, stream_of};
+use crate::commons::first_common;
 use bfv_core::copied;
 use mod_ring::{Poly, Polys, PublicKey, Ring, add_into, mul, neg_into};
+use proto_names::instance_stream;
 use ring_draws::small;
 use std::alloc::{AllocError, Global};
 use word_tape::Tape;
 
 /// The noise of a party's share, from the party's stream of the instance.
 fn first_noise(alloc: Global, ring: &Ring, seed: [u8; 32], id: u32) -> Result<Poly, AllocError>
-    ensures value { IfOk result (λ e. e ≡ small_poly ring.now.params.q ring.now.params.n ring.now.params.err seed (instance_stream id) 0) }
+    ensures value { IfOk result (λ e. e ≡ small_poly ring.now.params.q ring.now.params.n ring.now.params.err seed (stream_of_instance id) 0) }
     ensures fits { IfOk result (λ e. IsPoly ring.now.params.q ring.now.params.n e) }
 {
     small(
         alloc,
         ring,
         ring.params().err(),
-        &mut Tape::new(seed, stream_of(id)),
+        &mut Tape::new(seed, instance_stream(id)),
     )
 }
 

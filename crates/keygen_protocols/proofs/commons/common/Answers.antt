@@ -12,7 +12,7 @@ loop-row-init c =
     record {
       rows = c.new-polys.ensures ∙ so_far-start p.q p.n c.args.public c.args.id;
       fit = search rules;
-      tape = starts c.args.public c.args.id c.stream_of.result (4 * p.n * 0) c.new-tape.result c.new-tape.ensures c.stream_of.ensures (omega arith);
+      tape = starts c.args.public c.args.id c.instance_stream.result (4 * p.n * 0) c.new-tape.result c.new-tape.ensures c.instance_stream.ensures.value (omega arith);
     }
 
 pub loop-row-preserved : goal.loop-row-preserved
