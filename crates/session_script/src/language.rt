@@ -90,17 +90,25 @@ fn statement(alloc: Global, place: Place, words: &[&[u8]]) -> Result<Place, Faul
     }
 }
 
+/// The words of a line: skipped, or a statement.
+#[tactic(auto, unfolding(crate::specs::Scripts::spoken))]
+fn spoken(alloc: Global, place: Place, words: &[&[u8]]) -> Result<Place, Fault>
+    ensures { Follows (spoken place (texts words.now)) result }
+{
+    if is_skipped(words) {
+        return Ok(place);
+    }
+    statement(alloc, place, words)
+}
+
 /// A line: what is known behind it.
-#[tactic(auto, unfolding(crate::specs::Scripts::after_line, crate::specs::Scripts::spoken))]
+#[tactic(auto, unfolding(crate::specs::Scripts::after_line))]
 fn after_line(alloc: Global, place: Place, line: &[u8]) -> Result<Place, Fault>
     ensures { Follows (after_line place line.now) result }
 {
     unless(all_plain(line), Reason::Byte)?;
     let words = words(alloc, line)?;
-    if is_skipped(&words) {
-        return Ok(place);
-    }
-    statement(alloc, place, &words)
+    spoken(alloc, place, &words)
 }
 
 /// The script that is finished at the end of the text, before line `line`.

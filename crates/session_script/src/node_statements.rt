@@ -1,8 +1,10 @@
-ghost use Rattle.std.specs.Prelude.{◌≡◌, ◌<◌, ◌≤◌, length, nat_lt};
+ghost use Rattle.std.specs.Prelude.{◌≡◌, ◌+◌, ◌<◌, ◌≤◌, [], ◌∷◌, ◌++◌, length, nat_lt, Ok};
 ghost use Rattle.std.specs.List.{list_all, list_any};
+ghost use Rattle.circuit_form.specs.declared.node.Node.TheVariants as node;
+ghost use Rattle.session_script.specs.declared.place.Place.TheVariants as place;
 ghost use Rattle.session_script.specs.Words.{texts};
 ghost use Rattle.session_script.specs.Checks.{Follows};
-ghost use Rattle.session_script.specs.CircuitLines.{has_room, is_earlier, plain, input_statement, const_node, operands, neg_node, may_turn, is_used, with_turn, is_turn, rot_statement, other_node};
+ghost use Rattle.session_script.specs.CircuitLines.{with_node, has_room, is_earlier, plain, input_statement, const_node, operands, neg_node, may_turn, is_used, with_turn, is_turn, rot_statement, other_node};
 
 use crate::checks::{number_at, numbers, party, unless};
 use crate::frame::Frame;
@@ -48,6 +50,18 @@ fn plain(frame: &Frame, coeffs: Vec<u64>) -> Result<Plain, Fault>
     Ok(Plain::from_vec(coeffs))
 }
 
+/// What is known once an input of a party is a node, with its value.
+fn with_input(draft: Draft, begun: OpenCircuit, owner: u32, value: Plain) -> Result<Place, Fault>
+    requires { draft.inputs < 1024 }
+    ensures { Follows (Ok (place.InCircuit (record draft { inputs = draft.inputs + 1 }) (record (with_node begun (node.Input owner)) { values = begun.values ++ value ∷ [] }))) result }
+{
+    let (mut draft, mut begun) = (draft, begun);
+    draft.inputs += 1;
+    begun.nodes.push(Node::Input { owner })?;
+    begun.values.push(value)?;
+    Ok(Place::InCircuit { draft, begun })
+}
+
 /// `input P c0 c1 ..`
 #[tactic(auto, unfolding(crate::specs::CircuitLines::input_statement))]
 pub(crate) fn input_statement(
@@ -64,11 +78,7 @@ pub(crate) fn input_statement(
     unless(has_room(&begun) && draft.inputs < 1024, Reason::Limit)?;
     let owner = party(&draft.frame, p)?;
     let value = plain(&draft.frame, coeffs)?;
-    let (mut draft, mut begun) = (draft, begun);
-    draft.inputs += 1;
-    begun.nodes.push(Node::Input { owner })?;
-    begun.values.push(value)?;
-    Ok(Place::InCircuit { draft, begun })
+    with_input(draft, begun, owner, value)
 }
 
 /// `const c0 c1 ..`
@@ -130,6 +140,18 @@ fn is_turn(frame: &Frame, g: u64) -> bool
     g % 2 == 1 && 3 <= g && g < 2 * u64::from(frame.n())
 }
 
+/// What is known once a rotation is a node.
+fn with_rotation(draft: Draft, begun: OpenCircuit, g: u32, of: u32) -> Result<Place, Fault>
+    ensures { Follows (Ok (place.InCircuit (record draft { turns = with_turn draft.turns g }) (with_node begun (node.Rot g of)))) result }
+{
+    let (mut draft, mut begun) = (draft, begun);
+    if !is_used(&draft.turns, u64::from(g)) {
+        draft.turns.push(g)?;
+    }
+    begun.nodes.push(Node::Rot { g, of })?;
+    Ok(Place::InCircuit { draft, begun })
+}
+
 /// `rot g a`
 #[tactic(auto, unfolding(crate::specs::CircuitLines::rot_statement))]
 pub(crate) fn rot_statement(
@@ -148,15 +170,7 @@ pub(crate) fn rot_statement(
         is_turn(&draft.frame, g) && is_earlier(&begun, of),
         Reason::Node,
     )?;
-    let (mut draft, mut begun) = (draft, begun);
-    if !is_used(&draft.turns, g) {
-        draft.turns.push(g as u32)?;
-    }
-    begun.nodes.push(Node::Rot {
-        g: g as u32,
-        of: of as u32,
-    })?;
-    Ok(Place::InCircuit { draft, begun })
+    with_rotation(draft, begun, g as u32, of as u32)
 }
 
 /// A node that changes its circuit alone.
