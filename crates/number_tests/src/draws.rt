@@ -1,8 +1,8 @@
 //! Each call once, from the key of 32 zeros and stream 0, whose words RFC 8439 prints in appendix
 //! A.1, vectors 1 and 2.
-use ring_draws::{small, ternary, uniform, wide};
 use mod_ring::Ring;
 use param_set::Params;
+use ring_draws::{small, ternary, uniform, wide};
 use std::test::Fail;
 use word_tape::Tape;
 

@@ -1,7 +1,7 @@
 //! The first words of streams, as RFC 8439 prints them, and each draw from them.
-use word_tape::Tape;
 use mod_word::Modulus;
 use std::test::Fail;
+use word_tape::Tape;
 
 #[test]
 fn gives_the_printed_words(rt: HostRuntime) -> Result<(), Fail> {

@@ -1,9 +1,9 @@
 //! Bounds at n = 8, t = 16 and small draws within 1 against numbers worked out apart.
+use circuit_form::{Circuit, Node, Plain};
 use noise_ledger::{
     Over, Place, admit, const_bound, input_bound, mul_bound, neg_bound, output_bound,
     plain_mul_bound, rot_bound, sum_bound,
 };
-use circuit_form::{Circuit, Node, Plain};
 use param_set::Params;
 use std::alloc::{AllocError, Global};
 use std::test::Fail;

@@ -3,9 +3,9 @@
 ghost use Rattle.std.specs.Prelude.{◌≡◌, ◌<◌, All, IfOk};
 ghost use Rattle.bfv_core.specs.Fits.{CipherFits};
 
-use circuit_runner::{Inputs, Job, evaluate, is_switch_free};
 use bfv_core::{Ciphertext, round_phase, trivial};
 use circuit_form::{Circuit, Node, Plain};
+use circuit_runner::{Inputs, Job, evaluate, is_switch_free};
 use mod_ring::Ring;
 use param_set::Params;
 use std::alloc::{AllocError, Global};

@@ -1,8 +1,10 @@
 //! The calls for a sum of inputs of the parties 1 and 2 among three, of whom any two act.
-use session_rules::{CircuitState, Fixed, Given, Move, Plan, PlanList, next_ready, plan_of, planned_moves};
 use circuit_form::{Circuit, Node};
 use param_set::{Ids, Params};
 use proto_names::{Instance, PartySet, Signature, Stage};
+use session_rules::{
+    CircuitState, Fixed, Given, Move, Plan, PlanList, next_ready, plan_of, planned_moves,
+};
 use std::test::Fail;
 
 #[test]

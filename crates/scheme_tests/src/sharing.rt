@@ -1,10 +1,10 @@
 ghost use Rattle.std.specs.Prelude.{◌≡◌, ◌<◌, ◌≤◌, All, IfOk, length};
 ghost use Rattle.ring_spec.specs.Ring.{IsPoly};
 
-use shamir_ring::*;
 use mod_ring::{Poly, Ring};
 use param_set::{ParamFault, Params, RawParams};
 use proto_names::PartySet;
+use shamir_ring::*;
 use std::alloc::{AllocError, Global};
 use std::test::Fail;
 
