@@ -12,8 +12,6 @@ mod lock;
 mod pass;
 mod passes;
 mod rule;
-#[cfg(test)]
-mod tests;
 mod turns;
 mod view;
 

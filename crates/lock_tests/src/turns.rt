@@ -3,12 +3,12 @@ ghost use Rattle.std.specs.Prelude.{◌≡◌, ◌<◌, ℕ, All, Some, None, op
 ghost use Rattle.std.proofs.Common.{rules};
 ghost use Rattle.turn_lock.specs.Passes.{id_of, lock_of, number_of, IsSamePass};
 
-use crate::{Act, Kept, Pass, Passes, TurnLock};
 use std::alloc::Global;
 use std::sync::Wait;
 use std::test::Fail;
 use std::thread;
 use std::thread::Threads;
+use turn_lock::{Act, Kept, Pass, Passes, TurnLock};
 
 /// A caller's number, and the sum of all numbers up to here.
 #[derive(Clone, Copy, Debug, PartialEq, Eq)]

@@ -4,7 +4,7 @@ use Rattle.turn_lock.specs.declared.kept.Kept.{Ghosts}
 use Rattle.turn_lock.specs.declared.pass.Pass.{Pass}
 use Rattle.turn_lock.specs.Passes.{lock_of, number_of, AreNew, AreAll}
 use Rattle.turn_lock.proofs.Gathered.{popped}
-use Rattle.turn_lock.proofs.tests.two_callers_make_eight_pairs.Goals as goal
+use Rattle.lock_tests.proofs.turns.two_callers_make_eight_pairs.Goals as goal
 
 nil_of : {A : Type 0} (l : List A) → length l ≡ 0 → l ≡ []
 nil_of [] e = refl
