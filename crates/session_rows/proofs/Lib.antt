@@ -6,3 +6,6 @@ pub mod Keys
 pub mod Losses
 pub mod Lanes
 pub mod Refusals
+pub mod Facts
+pub mod Following
+pub mod Grounds

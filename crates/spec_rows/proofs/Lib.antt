@@ -1,0 +1,11 @@
+pub mod Rings
+pub mod Schemes
+pub mod Sharings
+pub mod Draws
+pub mod Circuits
+pub mod Ciphers
+pub mod Bounds
+pub mod Tables
+pub mod Settings
+pub mod Stores
+pub mod Honesty
