@@ -1,0 +1,5 @@
+pub mod Few
+pub mod Owed
+pub mod Lengths
+pub mod Circuits
+pub mod Endings
