@@ -1,5 +1,6 @@
 mod Bytes
 mod Inputs
 mod Party
+mod Room
 mod Session
 mod Taken

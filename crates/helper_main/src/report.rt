@@ -1,9 +1,9 @@
-ghost use Rattle.std.specs.Prelude.{◌≡◌, ◌≤◌, true, [], length, IfOk};
+ghost use Rattle.std.specs.Prelude.{◌≡◌, ◌<◌, ◌≤◌, true, [], length, IfOk};
 ghost use Rattle.session_script.specs.Scripts.{asked};
 ghost use Rattle.session_script.specs.Kept.{AreNamed, ArePresent};
 ghost use Rattle.session_state.specs.Standings.{setting};
 ghost use Rattle.run_report.specs.Reports.{setting_asked};
-ghost use Rattle.helper_main.specs.Runs.{history, serial_report};
+ghost use Rattle.helper_main.specs.Runs.{history, most_entries, serial_report};
 ghost use Rattle.helper_main.specs.Works.{are_free};
 
 use crate::parties::{offered, parties};
@@ -11,12 +11,12 @@ use lane_workers::serial;
 use mod_ring::Ring;
 use party_roll::SeedRoll;
 use run_report::text;
-use session_core::Session;
+use session_core::{Session, Stop};
 use session_script::Script;
 use std::alloc::{AllocError, Global};
 use std::sync::Arc;
 
-/// The greatest number of calls of a session.
+/// The greatest number of calls of a session: more than any run of a script makes.
 const MOST_CALLS: u32 = 8_388_608;
 
 /// A script's session, before any call.
@@ -29,6 +29,7 @@ fn opened(alloc: Global, ring: &Arc<Ring>, script: &Script) -> Result<Session<Se
     ensures master { IfOk result (λ session. session.roll.master ≡ script.now.master) }
     ensures params { IfOk result (λ session. session.standing.params ≡ script.now.params) }
     ensures log { IfOk result (λ session. session.log.items ≡ []) }
+    ensures room { IfOk result (λ session. most_entries < session.max_calls) }
 {
     let roll = SeedRoll::new(script.master);
     let circuits = offered(alloc, &script.circuits)?;
@@ -59,7 +60,8 @@ fn run(alloc: Global, ring: &Arc<Ring>, script: &Script) -> Result<Session<SeedR
         script.present.as_slice(),
     ) {
         Ok(()) => Ok(session),
-        Err(_) => Err(AllocError),
+        Err(Stop::NoMemory) => Err(AllocError),
+        Err(Stop::Spent) => unreachable!(),
     }
 }
 

@@ -1,9 +1,12 @@
--- The parties are honest ones of the session, and its log is the script's serial history.
-use Rattle.std.proofs.Common.{◌∙◌, ap}
+-- The parties are honest ones of the session, and its log is the script's serial history, for which it has room.
+use Rattle.std.proofs.Common.{◌∙◌, ap, Err, arith}
 use Rattle.param_set.specs.declared.params.Params.{Params}
 use Rattle.session_state.specs.Standings.{setting}
+use Rattle.session_core.specs.declared.stop.Stop.TheVariants.{Spent}
 use Rattle.session_script.specs.Scripts.{asked}
+use Rattle.helper_main.specs.Runs.{most_entries}
 use Rattle.helper_main.proofs.Session.{honest_all, seeds_are, history_is}
+use Rattle.helper_main.proofs.Room.{history_short, never_full}
 use Rattle.helper_main.proofs.report.run.Goals as goal
 
 pub serial-requires-clause-told : goal.serial-requires-clause-told
@@ -18,3 +21,16 @@ returns-in-Ok-clause-log c =
     let session = c.in_ok-session.session in
     c.in-Ok.ensures.run
     ∙ history_is (asked c.args.script.now) (setting session.standing) session.log.items c.as_slice-2.result.now c.in_ok-session.ensures.setting c.in_ok-session.ensures.log c.requires.no_lanes c.as_slice-2.ensures
+
+pub unreachable-requires : goal.unreachable-requires
+unreachable-requires c =
+    let a = asked c.args.script.now in
+    let params = c.args.script.now.params in
+    let before = c.in_ok-session.session in
+    let now = c.serial.new.session in
+    let full = c.serial.ensures.spent (c.in-Err-Spent.is ∙ ap Err c.in-Err-Spent.field-0-is) in
+    let most = c.serial.ensures.most in
+    let room = c.in_ok-session.ensures.room in
+    let short = history_short a c.requires.named c.requires.present c.requires.few params.degree.1 params.group.2 c.requires.no_lanes in
+    let few = never_full a (setting before.standing) before.log.items now.log.items c.as_slice-2.result.now short c.in_ok-session.ensures.setting c.in_ok-session.ensures.log c.requires.no_lanes c.as_slice-2.ensures c.in-Err-Spent.ensures.stopped in
+    omega arith
