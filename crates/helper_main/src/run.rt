@@ -19,6 +19,7 @@ pub(crate) fn put<K: Sink>(sink: &mut K, text: &[u8]) -> bool
     ensures all { result ≡ true → Appends (K.taken sink.old) (K.taken sink.new) text.now }
     ensures part { result ≡ false → WritesPart (K.taken sink.old) (K.taken sink.new) text.now }
     ensures fault { result ≡ false → HasFault (K.faults sink.old) (K.faults sink.new) }
+    ensures no_fault { result ≡ true → K.faults sink.new ≡ K.faults sink.old }
     ensures never_falls { K.faults sink.old ≤ K.faults sink.new }
 {
     write_all(sink, text).is_ok()
@@ -32,6 +33,7 @@ fn answer<K: Sink>(alloc: Global, work: Work, bytes: &[u8], sink: &mut K) -> Sta
     ensures write { result ≡ Status.Write → WritesPart (K.taken sink.old) (K.taken sink.new) (owed work (script bytes.now)) × HasFault (K.faults sink.old) (K.faults sink.new) }
     ensures memory { result ≡ Status.Memory → K.taken sink.new ≡ K.taken sink.old }
     ensures others { (result ≡ Status.Usage → ⊥) × (result ≡ Status.Read → ⊥) }
+    ensures no_write_fault { (result ≡ Status.Write → ⊥) → K.faults sink.new ≡ K.faults sink.old }
     ensures never_falls { K.faults sink.old ≤ K.faults sink.new }
 {
     let Ok(owed) = owed(alloc, work, bytes) else {
@@ -51,7 +53,9 @@ fn answer<K: Sink>(alloc: Global, work: Work, bytes: &[u8], sink: &mut K) -> Sta
 fn serve<S: Source, K: Sink>(alloc: Global, work: Work, source: &mut S, sink: &mut K) -> Status
     ensures serves { Serves work result (S.left source.old) (S.left source.new) (K.taken sink.old) (K.taken sink.new) }
     ensures read { result ≡ Status.Read → HasFault (S.faults source.old) (S.faults source.new) }
+    ensures no_read_fault { (result ≡ Status.Read → ⊥) → S.faults source.new ≡ S.faults source.old }
     ensures write { result ≡ Status.Write → HasFault (K.faults sink.old) (K.faults sink.new) }
+    ensures no_write_fault { (result ≡ Status.Write → ⊥) → K.faults sink.new ≡ K.faults sink.old }
     ensures source_never_falls { S.faults source.old ≤ S.faults source.new }
     ensures sink_never_falls { K.faults sink.old ≤ K.faults sink.new }
 {
@@ -76,7 +80,9 @@ fn serve<S: Source, K: Sink>(alloc: Global, work: Work, source: &mut S, sink: &m
 pub fn run_serial<S: Source, K: Sink>(alloc: Global, source: &mut S, sink: &mut K) -> Status
     ensures serves { Serves Work.Run result (S.left source.old) (S.left source.new) (K.taken sink.old) (K.taken sink.new) }
     ensures read { result ≡ Status.Read → HasFault (S.faults source.old) (S.faults source.new) }
+    ensures no_read_fault { (result ≡ Status.Read → ⊥) → S.faults source.new ≡ S.faults source.old }
     ensures write { result ≡ Status.Write → HasFault (K.faults sink.old) (K.faults sink.new) }
+    ensures no_write_fault { (result ≡ Status.Write → ⊥) → K.faults sink.new ≡ K.faults sink.old }
     ensures source_never_falls { S.faults source.old ≤ S.faults source.new }
     ensures sink_never_falls { K.faults sink.old ≤ K.faults sink.new }
 {
@@ -89,7 +95,9 @@ pub fn run_serial<S: Source, K: Sink>(alloc: Global, source: &mut S, sink: &mut 
 pub fn run_check<S: Source, K: Sink>(alloc: Global, source: &mut S, sink: &mut K) -> Status
     ensures serves { Serves Work.Check result (S.left source.old) (S.left source.new) (K.taken sink.old) (K.taken sink.new) }
     ensures read { result ≡ Status.Read → HasFault (S.faults source.old) (S.faults source.new) }
+    ensures no_read_fault { (result ≡ Status.Read → ⊥) → S.faults source.new ≡ S.faults source.old }
     ensures write { result ≡ Status.Write → HasFault (K.faults sink.old) (K.faults sink.new) }
+    ensures no_write_fault { (result ≡ Status.Write → ⊥) → K.faults sink.new ≡ K.faults sink.old }
     ensures source_never_falls { S.faults source.old ≤ S.faults source.new }
     ensures sink_never_falls { K.faults sink.old ≤ K.faults sink.new }
 {

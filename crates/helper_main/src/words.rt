@@ -51,7 +51,9 @@ pub fn run_words<S: Source, K: Sink>(
     ensures check { map string_bytes words.now ≡ words_of_check → Serves Work.Check result (S.left source.old) (S.left source.new) (K.taken sink.old) (K.taken sink.new) }
     ensures usage { (map string_bytes words.now ≡ words_of_run → ⊥) → (map string_bytes words.now ≡ words_of_check → ⊥) → Declines result (K.taken sink.old) (K.taken sink.new) × (source.new ≡ source.old) }
     ensures read { result ≡ Status.Read → HasFault (S.faults source.old) (S.faults source.new) }
+    ensures no_read_fault { (result ≡ Status.Read → ⊥) → S.faults source.new ≡ S.faults source.old }
     ensures write { result ≡ Status.Write → HasFault (K.faults sink.old) (K.faults sink.new) }
+    ensures no_write_fault { (result ≡ Status.Write → ⊥) → K.faults sink.new ≡ K.faults sink.old }
     ensures source_never_falls { S.faults source.old ≤ S.faults source.new }
     ensures sink_never_falls { K.faults sink.old ≤ K.faults sink.new }
 {
