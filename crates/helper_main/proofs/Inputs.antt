@@ -15,7 +15,7 @@ use Rattle.party_roll.specs.Values.{value_in, value_of, is_at, IsPlain}
 use Rattle.session_rules.proofs.Contained.{find_some}
 use Rattle.session_script.specs.Asked.{Named, Asked}
 use Rattle.session_script.specs.Kept.{IsNamed, AreNamed}
-use Rattle.helper_main.specs.Inputs.{no_circuit, circuit_at, OwnsInput, asked_value, IsAsked, IsBefore, HasOwn}
+use Rattle.helper_main.specs.Inputs.{no_circuit, circuit_at, OwnsInput, asked_value, IsAsked, IsOwn, IsBefore, HasOwn}
 
 -- ---- where a value is found
 
@@ -63,6 +63,7 @@ found_at a xs d j (Some x) e right s =
 pub own_start : (a : Asked) (p : ℕ) (values : List Placed) → values ≡ [] → HasOwn a p 0 0 values
 own_start a p values e = record {
   right = All-same (IsAsked a) values [] e (All-nil (IsAsked a));
+  own = All-same (IsOwn a p) values [] e (All-nil (IsOwn a p));
   there = λ d j before own. elim before [
     | inl less ↦ absurd (omega (arith, less))
     | inr same ↦ absurd (omega (arith, same.1))
@@ -73,6 +74,7 @@ own_start a p values e = record {
 pub own_passed : (a : Asked) (p c k : ℕ) (values : List Placed) → (OwnsInput a p c k → ⊥) → HasOwn a p c k values → HasOwn a p c (k + 1) values
 own_passed a p c k values other h = record {
   right = h.right;
+  own = h.own;
   there = λ d j before own. elim before [
     | inl less ↦ h.there d j (inl less) own
     | inr same ↦ elim (cases_lt j k) [
@@ -89,10 +91,16 @@ pub other_owner : (a : Asked) (p c k : ℕ) (owner : Option ℕ) → false ≡ o
 other_owner a p c k owner other is own =
     let same : false ≡ true = other ∙ ap (λ (z : Option ℕ). option_eq nat_eq z (Some p)) (is ∙ own) ∙ eq-eqb p p refl in cc
 
+-- p itself
+pub same_owner : (a : Asked) (p c k : ℕ) (owner : Option ℕ) → true ≡ option_eq nat_eq owner (Some p) → owner ≡ slice_get (owners (circuit_at a c).nodes) k → OwnsInput a p c k
+same_owner a p c k None same is = absurd cc
+same_owner a p c k (Some o) same is = sym is ∙ ap Some (eqb-true o p (sym same))
+
 -- its own input gets its value
-pub own_placed : (a : Asked) (p c k : ℕ) (values : List Placed) (x : Placed) → IsAsked a x → x.circuit ≡ c → x.input ≡ k → HasOwn a p c k values → HasOwn a p c (k + 1) (values ++ x ∷ [])
-own_placed a p c k values x asked is-c is-k h = record {
+pub own_placed : (a : Asked) (p c k : ℕ) (values : List Placed) (x : Placed) → IsAsked a x → IsOwn a p x → x.circuit ≡ c → x.input ≡ k → HasOwn a p c k values → HasOwn a p c (k + 1) (values ++ x ∷ [])
+own_placed a p c k values x asked its is-c is-k h = record {
   right = All-push (IsAsked a) values x h.right asked;
+  own = All-push (IsOwn a p) values x h.own its;
   there = λ d j before own. elim before [
     | inl less ↦ kept values (x ∷ []) d j (h.there d j (inl less) own)
     | inr same ↦ elim (cases_lt j k) [
@@ -109,6 +117,7 @@ own_placed a p c k values x asked is-c is-k h = record {
 pub own_next : (a : Asked) (p c k : ℕ) (values : List Placed) → length (owners (circuit_at a c).nodes) ≤ k → HasOwn a p c k values → HasOwn a p (c + 1) 0 values
 own_next a p c k values all h = record {
   right = h.right;
+  own = h.own;
   there = λ d j before own. elim before [
     | inl less ↦ elim (cases_lt d c) [
       | inl earlier ↦ h.there d j (inl earlier) own
@@ -140,10 +149,10 @@ pub named_at : (a : Asked) (c : ℕ) → c < length a.circuits → AreNamed a �
 named_at a c within named = All-get_or (IsNamed a.numbers) a.circuits c no_circuit within named
 
 -- the value of an input is a plaintext
-pub own_pushed : (a : Asked) (p c k : ℕ) (value : List ℕ) (values values' : List Placed) → AreNamed a → c < length a.circuits → k < length (owners (circuit_at a c).nodes) → value ≡ asked_value a c k → values' ≡ values ++ record { circuit = c; input = k; value = value } ∷ [] → HasOwn a p c k values → HasOwn a p c (k + 1) values'
-own_pushed a p c k value values values' named there within is pushed h =
+pub own_pushed : (a : Asked) (p c k : ℕ) (value : List ℕ) (values values' : List Placed) → AreNamed a → c < length a.circuits → k < length (owners (circuit_at a c).nodes) → OwnsInput a p c k → value ≡ asked_value a c k → values' ≡ values ++ record { circuit = c; input = k; value = value } ∷ [] → HasOwn a p c k values → HasOwn a p c (k + 1) values'
+own_pushed a p c k value values values' named there within its is pushed h =
     let circuit = named_at a c there named in
     let plain = All-get_or (IsPoly a.numbers.t a.numbers.n) (circuit_at a c).values k [] (omega (arith, within, circuit.count)) circuit.values in
     let x : Placed = record { circuit = c; input = k; value = value } in
     let asked : IsAsked a x = record { plain = subst (IsPoly a.numbers.t a.numbers.n) (sym is) plain; value = is } in
-    subst (HasOwn a p c (k + 1)) (sym pushed) (own_placed a p c k values x asked refl refl h)
+    subst (HasOwn a p c (k + 1)) (sym pushed) (own_placed a p c k values x asked its refl refl h)

@@ -29,7 +29,13 @@ pub record IsAsked (a : Asked) (placed : Placed) : Type 0 where
 abbrev pub IsBefore : ℕ → ℕ → ℕ → ℕ → Type 0
 IsBefore c k d j = (d < c) ⊎ ((d ≡ c) × (j < k))
 
--- values that are those of inputs, among them one for each input before input k of circuit c that party p owns
+-- party p owns the input at which a plaintext is placed
+abbrev pub IsOwn : Asked → ℕ → Placed → Type 0
+IsOwn a p placed = OwnsInput a p placed.circuit placed.input
+
+-- values that are those of inputs that party p owns, and of no others, among them one for each that stands before input k of
+-- circuit c
 pub record HasOwn (a : Asked) (p c k : ℕ) (values : List Placed) : Type 0 where
   pub right : All (IsAsked a) values
+  pub own : All (IsOwn a p) values
   pub there : (d j : ℕ) → IsBefore c k d j → OwnsInput a p d j → IsSome (value_in values d j)
