@@ -1,5 +1,5 @@
 -- The log of a script's session has room for all calls of its run.
-use Rattle.std.proofs.Common.{◌≡◌, ap, subst, refl, ℕ, zero, suc, ◌+◌, ◌*◌, ◌<◌, ◌≤◌, List, [], ◌∷◌, length, map, take, All, sum_by, arith}
+use Rattle.std.proofs.Common.{◌≡◌, ap, refl, ℕ, suc, ◌+◌, ◌*◌, ◌≤◌, List, [], ◌∷◌, length, map, All, arith}
 use Rattle.std.proofs.lemmas.List.{length-map, length-take}
 use Rattle.std.proofs.lemmas.List.Elements.{All-map, All-weaker}
 use Rattle.std.proofs.lemmas.List.Sums.{sum_by-le}
@@ -9,7 +9,7 @@ use Rattle.noise_ledger.specs.Bounds.{Numbers as Bounding}
 use Rattle.session_rules.specs.declared.call.Entry.{Entry}
 use Rattle.session_rules.specs.declared.fixed.Fixed.{Fixed}
 use Rattle.session_rules.specs.Fixing.{fixed_of}
-use Rattle.session_rules.specs.Lanes.{serial, joined_all, settled}
+use Rattle.session_rules.specs.Lanes.{joined_all, settled}
 use Rattle.session_rules.proofs.Whole.{circuits_are_whole}
 use Rattle.run_laws.specs.Lengths.{signatures, inputs, most_sent, most_round, lines, most_calls, node_count}
 use Rattle.run_laws.proofs.Lengths.{serial_is_short}

@@ -1,5 +1,5 @@
 -- What a script is that is taken for a run.
-use Rattle.std.proofs.Common.{◌≡◌, ℕ, suc, ◌==◌, true, false, Bool, ◌&&◌, List, [], ◌∷◌, length, refl, arith}
+use Rattle.std.proofs.Common.{◌≡◌, suc, ◌==◌, true, List, [], ◌∷◌, length, refl, arith}
 use Rattle.std.proofs.lemmas.Bool.{and_parts, eqb-true}
 use Rattle.session_rules.specs.declared.line.Line.{Line}
 use Rattle.session_script.specs.Asked.{Asked}

@@ -1,5 +1,5 @@
 -- A script that is taken for a run has no lanes, and circuits without key switches.
-use Rattle.std.proofs.Common.{◌≡◌, ◌∙◌, sym, ap, true}
+use Rattle.std.proofs.Common.{◌∙◌, sym, ap}
 use Rattle.session_script.specs.Scripts.{asked}
 use Rattle.helper_main.specs.declared.work.Work.{Work}
 use Rattle.helper_main.specs.Works.{takes}

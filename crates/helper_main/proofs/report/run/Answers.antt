@@ -2,9 +2,7 @@
 use Rattle.std.proofs.Common.{◌∙◌, ap, Err, arith}
 use Rattle.param_set.specs.declared.params.Params.{Params}
 use Rattle.session_state.specs.Standings.{setting}
-use Rattle.session_core.specs.declared.stop.Stop.TheVariants.{Spent}
 use Rattle.session_script.specs.Scripts.{asked}
-use Rattle.helper_main.specs.Runs.{most_entries}
 use Rattle.helper_main.proofs.Session.{honest_all, seeds_are, history_is}
 use Rattle.helper_main.proofs.Room.{history_short, never_full}
 use Rattle.helper_main.proofs.report.run.Goals as goal
