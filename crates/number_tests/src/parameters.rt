@@ -16,44 +16,24 @@ const FRAME: RawParams = RawParams {
 
 #[test]
 fn reads_the_frame(rt: HostRuntime) -> Result<(), Fail> {
-    let params = Params::frame(3, 2);
-    for (name, value, wanted) in [
-        ("n", params.n(), 8),
-        ("q", params.q(), 31_525_197_391_593_473),
-        ("t", params.t(), 16),
-        ("digit bits", params.digit_bits(), 8),
-        ("err", params.err(), 1),
-        ("flood", params.flood(), 1),
-        ("parties", params.parties(), 3),
-        ("threshold", params.threshold(), 2),
-        ("psi", params.psi(), 1_791_537_114_801_093),
-        ("rows", params.rows(), 7),
-        ("delta", params.delta(), 1_970_324_836_974_592),
-        ("rem", params.rem(), 1),
-        ("limit", params.limit(), 985_162_418_487_295),
-    ] {
-        assert_eq!(rt; value, wanted, "{name}");
-    }
-    Ok(())
-}
-
-#[test]
-fn checks_the_frame(rt: HostRuntime) -> Result<(), Fail> {
-    let params = Params::check(&FRAME)?;
-    for (name, value, wanted) in [
-        ("n", params.n(), 8),
-        ("q", params.q(), 31_525_197_391_593_473),
-        ("t", params.t(), 16),
-        ("digit bits", params.digit_bits(), 8),
-        ("err", params.err(), 1),
-        ("flood", params.flood(), 1),
-        ("parties", params.parties(), 3),
-        ("threshold", params.threshold(), 2),
-        ("psi", params.psi(), 1_791_537_114_801_093),
-        ("rows", params.rows(), 7),
-        ("limit", params.limit(), 985_162_418_487_295),
-    ] {
-        assert_eq!(rt; value, wanted, "{name}");
+    for params in [Params::frame(3, 2), Params::check(&FRAME)?] {
+        for (name, value, wanted) in [
+            ("n", params.n(), 8),
+            ("q", params.q(), 31_525_197_391_593_473),
+            ("t", params.t(), 16),
+            ("digit bits", params.digit_bits(), 8),
+            ("err", params.err(), 1),
+            ("flood", params.flood(), 1),
+            ("parties", params.parties(), 3),
+            ("threshold", params.threshold(), 2),
+            ("psi", params.psi(), 1_791_537_114_801_093),
+            ("rows", params.rows(), 7),
+            ("delta", params.delta(), 1_970_324_836_974_592),
+            ("rem", params.rem(), 1),
+            ("limit", params.limit(), 985_162_418_487_295),
+        ] {
+            assert_eq!(rt; value, wanted, "{name}");
+        }
     }
     Ok(())
 }
