@@ -248,9 +248,9 @@ end-sound draft begun words d b free =
 in-circuit-sound : (draft : Draft) (begun : OpenCircuit) (words : List (List ℕ)) → IsDrafted draft → IsBegun draft.frame begun → length draft.circuits < 64 → IfOk (in_circuit draft begun words) Sound
 unfolding in_circuit Sound
 in-circuit-sound draft begun words d b free =
-    either Sound (leads (codes "input") words) _ _ (input-sound draft begun words d b free)
+    either Sound (leads (codes "end") words) _ _ (end-sound draft begun words d b free)
+    (either Sound (leads (codes "input") words) _ _ (input-sound draft begun words d b free)
     (either Sound (leads (codes "rot") words) _ _ (rot-sound draft begun words d b free)
-    (either Sound (leads (codes "end") words) _ _ (end-sound draft begun words d b free)
     (past_known (IsOther draft.frame begun) Sound (other_node draft begun words) _ (other-known draft begun words d) (λ added other.
     (d, other-begun draft.frame begun added b other, free)))))
 

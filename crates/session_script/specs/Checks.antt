@@ -29,6 +29,11 @@ abbrev pub Follows : {A : Type 0} → Result A Reason → Result A Fault → Typ
 Follows said (Ok x) = said ≡ Ok x
 Follows said (Err e) = IsFaultOf said e
 
+-- the same of a function that answers nothing, and leaves x
+abbrev pub Leaves : {A : Type 0} → Result A Reason → A → Result (Unit {0}) Fault → Type 0
+Leaves said x (Ok _) = said ≡ Ok x
+Leaves said x (Err e) = IsFaultOf said e
+
 -- whether there are so many words, and this one leads
 abbrev pub is_statement : List ℕ → ℕ → List (List ℕ) → Bool
 is_statement text count words = leads text words && (length words == count)

@@ -169,7 +169,7 @@ circuit_end draft begun words = do
 -- a line in a circuit
 unfoldable pub in_circuit : Draft → OpenCircuit → List (List ℕ) → Result Place Reason
 in_circuit draft begun words =
-    if leads (codes "input") words then input_statement draft begun words
+    if leads (codes "end") words then circuit_end draft begun words
+    else if leads (codes "input") words then input_statement draft begun words
     else if leads (codes "rot") words then rot_statement draft begun words
-    else if leads (codes "end") words then circuit_end draft begun words
     else other_node draft begun words >>= (λ added. Ok (place.InCircuit draft (with_node begun added)))

@@ -1,7 +1,9 @@
-ghost use Rattle.std.specs.Prelude.{◌≡◌, ◌<◌, [], length, not};
+ghost use Rattle.std.specs.Prelude.{◌≡◌, ◌<◌, [], length, not, false, codes, Ok, IfOk, IfErr};
 ghost use Rattle.std.specs.List.{list_any};
 ghost use Rattle.session_script.specs.Words.{texts};
-ghost use Rattle.session_script.specs.Checks.{Follows};
+ghost use Rattle.session_script.specs.declared.place.Place.TheVariants as place;
+ghost use Rattle.session_script.specs.Lines.{leads};
+ghost use Rattle.session_script.specs.Checks.{IsFaultOf, Follows, Leaves};
 ghost use Rattle.session_script.specs.CircuitLines.{is_name, is_name_byte, has_name, circuit_statement, with_circuit, circuit_end, in_circuit, with_node, other_node};
 
 use crate::checks::unless;
@@ -53,8 +55,25 @@ fn is_taken(circuits: &NamedCircuits, name: &[u8]) -> bool
         .any(|circuit| circuit.name() == name)
 }
 
-/// `circuit NAME`
+/// The circuit that `circuit NAME` begins.
 #[tactic(auto, unfolding(crate::specs::CircuitLines::circuit_statement))]
+fn begun(alloc: Global, draft: &Draft, words: &[&[u8]]) -> Result<OpenCircuit, Fault>
+    ensures ok { IfOk result (λ begun. circuit_statement draft.now (texts words.now) ≡ Ok (place.InCircuit draft.now begun)) }
+    ensures err { IfErr result (IsFaultOf (circuit_statement draft.now (texts words.now))) }
+{
+    unless(words.len() == 2, Reason::Word)?;
+    unless(draft.circuits.len() < 64, Reason::Limit)?;
+    let name = word_at(words, 1);
+    unless(is_name(name), Reason::Name)?;
+    unless(!is_taken(&draft.circuits, name), Reason::Name)?;
+    Ok(OpenCircuit {
+        name: CircuitName::copied(alloc, name)?,
+        nodes: NodeList::new(alloc),
+        values: Plains::new(alloc),
+    })
+}
+
+/// `circuit NAME`
 pub(crate) fn circuit_statement(
     alloc: Global,
     draft: Draft,
@@ -62,16 +81,7 @@ pub(crate) fn circuit_statement(
 ) -> Result<Place, Fault>
     ensures { Follows (circuit_statement draft (texts words.now)) result }
 {
-    unless(words.len() == 2, Reason::Word)?;
-    unless(draft.circuits.len() < 64, Reason::Limit)?;
-    let name = word_at(words, 1);
-    unless(is_name(name), Reason::Name)?;
-    unless(!is_taken(&draft.circuits, name), Reason::Name)?;
-    let begun = OpenCircuit {
-        name: CircuitName::copied(alloc, name)?,
-        nodes: NodeList::new(alloc),
-        values: Plains::new(alloc),
-    };
+    let begun = begun(alloc, &draft, words)?;
     Ok(Place::InCircuit { draft, begun })
 }
 
@@ -79,14 +89,13 @@ pub(crate) fn circuit_statement(
 #[tactic(auto, unfolding(crate::specs::CircuitLines::circuit_end))]
 fn circuit_end(
     alloc: Global,
-    draft: Draft,
+    draft: &mut Draft,
     begun: OpenCircuit,
     words: &[&[u8]],
-) -> Result<Place, Fault>
-    ensures { Follows (circuit_end draft begun (texts words.now)) result }
+) -> Result<(), Fault>
+    ensures { Leaves (circuit_end draft.old begun (texts words.now)) (place.Circuits draft.new) result }
 {
     unless(words.len() == 1, Reason::Word)?;
-    let mut draft = draft;
     let OpenCircuit {
         name,
         nodes,
@@ -97,7 +106,29 @@ fn circuit_end(
     };
     let named = NamedCircuit::new(alloc, name, circuit, values)?;
     draft.circuits.push(named)?;
-    Ok(Place::Circuits { draft })
+    Ok(())
+}
+
+/// A node.
+#[tactic(auto, unfolding(crate::specs::CircuitLines::in_circuit))]
+fn node_statement(
+    alloc: Global,
+    draft: &mut Draft,
+    begun: &mut OpenCircuit,
+    words: &[&[u8]],
+) -> Result<(), Fault>
+    requires { leads (codes "end") (texts words.now) ≡ false }
+    ensures { Leaves (in_circuit draft.old begun.old (texts words.now)) (place.InCircuit draft.new begun.new) result }
+{
+    if leads("input", words) {
+        return input_statement(alloc, draft, begun, words);
+    }
+    if leads("rot", words) {
+        return rot_statement(draft, begun, words);
+    }
+    let node = other_node(alloc, draft, begun, words)?;
+    begun.nodes.push(node)?;
+    Ok(())
 }
 
 /// A line in a circuit.
@@ -110,17 +141,11 @@ pub(crate) fn in_circuit(
 ) -> Result<Place, Fault>
     ensures { Follows (in_circuit draft begun (texts words.now)) result }
 {
-    if leads("input", words) {
-        return input_statement(alloc, draft, begun, words);
-    }
-    if leads("rot", words) {
-        return rot_statement(draft, begun, words);
-    }
+    let (mut draft, mut begun) = (draft, begun);
     if leads("end", words) {
-        return circuit_end(alloc, draft, begun, words);
+        circuit_end(alloc, &mut draft, begun, words)?;
+        return Ok(Place::Circuits { draft });
     }
-    let node = other_node(alloc, &draft, &begun, words)?;
-    let mut begun = begun;
-    begun.nodes.push(node)?;
+    node_statement(alloc, &mut draft, &mut begun, words)?;
     Ok(Place::InCircuit { draft, begun })
 }

@@ -1,7 +1,9 @@
-ghost use Rattle.std.specs.Prelude.{◌≡◌, ◌<◌, ◌++◌, replicate, IfOk};
+ghost use Rattle.std.specs.Prelude.{◌≡◌, ◌<◌, ◌++◌, [], false, codes, replicate, Ok, Err, IfOk, IfErr, OnOk};
 ghost use Rattle.session_rules.specs.declared.line.Line.TheVariants.{Work};
 ghost use Rattle.session_script.specs.Words.{texts};
-ghost use Rattle.session_script.specs.Checks.{Follows};
+ghost use Rattle.session_script.specs.declared.place.Place.TheVariants as place;
+ghost use Rattle.session_script.specs.Lines.{leads};
+ghost use Rattle.session_script.specs.Checks.{Follows, Leaves};
 ghost use Rattle.session_script.specs.LaneLines.{lane_statement, has_line_left, lone_party, hold_line, lone_line, lane_line, lane_end, in_lane, workers_statement};
 
 use crate::checks::{number_at, party, unless};
@@ -12,13 +14,21 @@ use crate::reason::{Fault, Reason};
 use session_rules::Line;
 use std::alloc::{AllocError, Global};
 
-/// `lane`
+/// Whether a lane may begin, by `lane`.
 #[tactic(auto, unfolding(crate::specs::LaneLines::lane_statement))]
+fn may_begin(draft: &Draft, words: &[&[u8]]) -> Result<(), Reason>
+    ensures ok { OnOk result (lane_statement draft.now (texts words.now) ≡ Ok (place.InLane draft.now [])) }
+    ensures err { IfErr result (λ r. lane_statement draft.now (texts words.now) ≡ Err r) }
+{
+    unless(words.len() == 1, Reason::Word)?;
+    unless(draft.lanes.len() < 8, Reason::Limit)
+}
+
+/// `lane`
 pub(crate) fn lane_statement(alloc: Global, draft: Draft, words: &[&[u8]]) -> Result<Place, Reason>
     ensures { result ≡ lane_statement draft (texts words.now) }
 {
-    unless(words.len() == 1, Reason::Word)?;
-    unless(draft.lanes.len() < 8, Reason::Limit)?;
+    may_begin(&draft, words)?;
     let lane = Lane::new(alloc);
     Ok(Place::InLane { draft, lane })
 }
@@ -98,13 +108,24 @@ fn lane_line(draft: &Draft, words: &[&[u8]]) -> Result<Line, Reason>
 
 /// `end` behind the lines of a lane.
 #[tactic(auto, unfolding(crate::specs::LaneLines::lane_end))]
-fn lane_end(draft: Draft, lane: Lane, words: &[&[u8]]) -> Result<Place, Fault>
-    ensures { Follows (lane_end draft lane (texts words.now)) result }
+fn lane_end(draft: &mut Draft, lane: Lane, words: &[&[u8]]) -> Result<(), Fault>
+    ensures { Leaves (lane_end draft.old lane (texts words.now)) (place.Lanes draft.new) result }
 {
     unless(words.len() == 1, Reason::Word)?;
-    let mut draft = draft;
     draft.lanes.push(lane)?;
-    Ok(Place::Lanes { draft })
+    Ok(())
+}
+
+/// A line of a lane, put behind those before it.
+#[tactic(auto, unfolding(crate::specs::LaneLines::in_lane))]
+fn put_line(draft: &mut Draft, lane: &mut Lane, words: &[&[u8]]) -> Result<(), Fault>
+    requires { leads (codes "end") (texts words.now) ≡ false }
+    ensures { Leaves (in_lane draft.old lane.old (texts words.now)) (place.InLane draft.new lane.new) result }
+{
+    let said = lane_line(draft, words)?;
+    draft.lines += 1;
+    lane.push(said)?;
+    Ok(())
 }
 
 /// A line in a lane.
@@ -112,34 +133,44 @@ fn lane_end(draft: Draft, lane: Lane, words: &[&[u8]]) -> Result<Place, Fault>
 pub(crate) fn in_lane(draft: Draft, lane: Lane, words: &[&[u8]]) -> Result<Place, Fault>
     ensures { Follows (in_lane draft lane (texts words.now)) result }
 {
-    if leads("end", words) {
-        return lane_end(draft, lane, words);
-    }
-    let said = lane_line(&draft, words)?;
     let (mut draft, mut lane) = (draft, lane);
-    draft.lines += 1;
-    lane.push(said)?;
+    if leads("end", words) {
+        lane_end(&mut draft, lane, words)?;
+        return Ok(Place::Lanes { draft });
+    }
+    put_line(&mut draft, &mut lane, words)?;
     Ok(Place::InLane { draft, lane })
 }
 
-/// The lanes with those of workers behind them.
-fn with_workers(
+/// Puts the lanes of workers behind the others.
+fn put_workers(
     alloc: Global,
-    lanes: Lanes,
+    lanes: &mut Lanes,
     workers: usize,
     jobs: usize,
-) -> Result<Lanes, AllocError>
-    ensures { IfOk result (λ made. made ≡ lanes ++ replicate workers (replicate jobs Work)) }
+) -> Result<(), AllocError>
+    ensures { OnOk result (lanes.new ≡ lanes.old ++ replicate workers (replicate jobs Work)) }
 {
-    let mut made = lanes;
     'workers: for _ in 0..workers {
-        made.push(Lane::of_work(alloc, jobs)?)?;
+        lanes.push(Lane::of_work(alloc, jobs)?)?;
     }
-    Ok(made)
+    Ok(())
+}
+
+/// `workers W K`, but for the place behind it.
+#[tactic(auto, unfolding(crate::specs::LaneLines::workers_statement))]
+fn add_workers(alloc: Global, draft: &mut Draft, words: &[&[u8]]) -> Result<(), Fault>
+    ensures { Leaves (workers_statement draft.old (texts words.now)) (place.Closing draft.new) result }
+{
+    unless(words.len() == 3, Reason::Word)?;
+    let workers = number_at(words, 1)?;
+    let jobs = number_at(words, 2)?;
+    unless(workers <= 8 && jobs <= 256, Reason::Limit)?;
+    put_workers(alloc, &mut draft.lanes, workers as usize, jobs as usize)?;
+    Ok(())
 }
 
 /// `workers W K`
-#[tactic(auto, unfolding(crate::specs::LaneLines::workers_statement))]
 pub(crate) fn workers_statement(
     alloc: Global,
     draft: Draft,
@@ -147,31 +178,7 @@ pub(crate) fn workers_statement(
 ) -> Result<Place, Fault>
     ensures { Follows (workers_statement draft (texts words.now)) result }
 {
-    unless(words.len() == 3, Reason::Word)?;
-    let workers = number_at(words, 1)?;
-    let jobs = number_at(words, 2)?;
-    unless(workers <= 8 && jobs <= 256, Reason::Limit)?;
-    let Draft {
-        frame,
-        master,
-        present,
-        circuits,
-        inputs,
-        turns,
-        lanes,
-        lines,
-    } = draft;
-    let lanes = with_workers(alloc, lanes, workers as usize, jobs as usize)?;
-    Ok(Place::Closing {
-        draft: Draft {
-            frame,
-            master,
-            present,
-            circuits,
-            inputs,
-            turns,
-            lanes,
-            lines,
-        },
-    })
+    let mut draft = draft;
+    add_workers(alloc, &mut draft, words)?;
+    Ok(Place::Closing { draft })
 }

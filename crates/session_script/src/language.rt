@@ -1,7 +1,9 @@
-ghost use Rattle.std.specs.Prelude.{◌≡◌, ◌+◌, ◌^◌, ◌<◌, ◌≤◌, length, Ok, IfOk, IfErr};
+ghost use Rattle.std.specs.Prelude.{◌≡◌, ◌+◌, ◌^◌, ◌<◌, ◌≤◌, length, true, Ok, IfOk, IfErr};
 ghost use Rattle.session_script.specs.Words.{texts};
 ghost use Rattle.session_script.specs.declared.place.Place.TheVariants.{Start};
-ghost use Rattle.session_script.specs.Checks.{Follows};
+ghost use Rattle.session_script.specs.declared.reason.Reason.TheVariants as reason;
+ghost use Rattle.session_script.specs.Lines.{words, all_plain};
+ghost use Rattle.session_script.specs.Checks.{IsFaultOf, Follows, unless};
 ghost use Rattle.session_script.specs.Kept.{AreNamed, ArePresent};
 ghost use Rattle.session_script.specs.Scripts.{done_statement, between_lanes, between_circuits, statement, spoken, after_line, ended, read_from, script, asked, IsStopOf};
 
@@ -101,13 +103,22 @@ fn spoken(alloc: Global, place: Place, words: &[&[u8]]) -> Result<Place, Fault>
     statement(alloc, place, words)
 }
 
+/// The words of a line, whose bytes all may stand in a script.
+fn plain_words(alloc: Global, line: &[u8]) -> Result<Vec<&[u8]>, Fault>
+    ensures words { IfOk result (λ v. texts v.items ≡ words line.now) }
+    ensures plain { IfOk result (λ _. all_plain line.now ≡ true) }
+    ensures err { IfErr result (IsFaultOf (unless (all_plain line.now) reason.Byte)) }
+{
+    unless(all_plain(line), Reason::Byte)?;
+    Ok(words(alloc, line)?)
+}
+
 /// A line: what is known behind it.
 #[tactic(auto, unfolding(crate::specs::Scripts::after_line))]
 fn after_line(alloc: Global, place: Place, line: &[u8]) -> Result<Place, Fault>
     ensures { Follows (after_line place line.now) result }
 {
-    unless(all_plain(line), Reason::Byte)?;
-    let words = words(alloc, line)?;
+    let words = plain_words(alloc, line)?;
     spoken(alloc, place, &words)
 }
 

@@ -1,19 +1,19 @@
-ghost use Rattle.std.specs.Prelude.{◌≡◌, ◌+◌, ◌<◌, ◌≤◌, [], ◌∷◌, ◌++◌, length, nat_lt, Ok};
+ghost use Rattle.std.specs.Prelude.{◌≡◌, ◌^◌, ◌<◌, length, nat_lt, IsTrue, OnOk, OnErr};
 ghost use Rattle.std.specs.List.{list_all, list_any};
 ghost use Rattle.circuit_form.specs.declared.node.Node.TheVariants as node;
 ghost use Rattle.session_script.specs.declared.place.Place.TheVariants as place;
 ghost use Rattle.session_script.specs.Words.{texts};
-ghost use Rattle.session_script.specs.Checks.{Follows};
+ghost use Rattle.session_script.specs.Checks.{Follows, Leaves};
 ghost use Rattle.session_script.specs.CircuitLines.{with_node, has_room, is_earlier, plain, input_statement, const_node, operands, neg_node, may_turn, is_used, with_turn, is_turn, rot_statement, other_node};
 
 use crate::checks::{number_at, numbers, party, unless};
 use crate::frame::Frame;
 use crate::lines::{behind, leads};
-use crate::place::{Draft, OpenCircuit, Place};
+use crate::place::{Draft, OpenCircuit};
 use crate::reason::{Fault, Reason};
 use circuit_form::Node;
 use param_set::{Ids, Plain};
-use std::alloc::Global;
+use std::alloc::{AllocError, Global};
 
 /// Whether one more node may stand.
 fn has_room(begun: &OpenCircuit) -> bool
@@ -50,35 +50,26 @@ fn plain(frame: &Frame, coeffs: Vec<u64>) -> Result<Plain, Fault>
     Ok(Plain::from_vec(coeffs))
 }
 
-/// What is known once an input of a party is a node, with its value.
-fn with_input(draft: Draft, begun: OpenCircuit, owner: u32, value: Plain) -> Result<Place, Fault>
-    requires { draft.inputs < 1024 }
-    ensures { Follows (Ok (place.InCircuit (record draft { inputs = draft.inputs + 1 }) (record (with_node begun (node.Input owner)) { values = begun.values ++ value ∷ [] }))) result }
-{
-    let (mut draft, mut begun) = (draft, begun);
-    draft.inputs += 1;
-    begun.nodes.push(Node::Input { owner })?;
-    begun.values.push(value)?;
-    Ok(Place::InCircuit { draft, begun })
-}
-
 /// `input P c0 c1 ..`
 #[tactic(auto, unfolding(crate::specs::CircuitLines::input_statement))]
 pub(crate) fn input_statement(
     alloc: Global,
-    draft: Draft,
-    begun: OpenCircuit,
+    draft: &mut Draft,
+    begun: &mut OpenCircuit,
     words: &[&[u8]],
-) -> Result<Place, Fault>
-    ensures { Follows (input_statement draft begun (texts words.now)) result }
+) -> Result<(), Fault>
+    ensures { Leaves (input_statement draft.old begun.old (texts words.now)) (place.InCircuit draft.new begun.new) result }
 {
     unless(words.len() >= 3, Reason::Word)?;
     let p = number_at(words, 1)?;
     let coeffs = numbers(alloc, behind(words, 2))?;
-    unless(has_room(&begun) && draft.inputs < 1024, Reason::Limit)?;
+    unless(has_room(begun) && draft.inputs < 1024, Reason::Limit)?;
     let owner = party(&draft.frame, p)?;
     let value = plain(&draft.frame, coeffs)?;
-    with_input(draft, begun, owner, value)
+    draft.inputs += 1;
+    begun.nodes.push(Node::Input { owner })?;
+    begun.values.push(value)?;
+    Ok(())
 }
 
 /// `const c0 c1 ..`
@@ -135,42 +126,47 @@ fn is_used(turns: &Ids, g: u64) -> bool
 
 /// Whether g is odd and from 3 to 2n - 1.
 fn is_turn(frame: &Frame, g: u64) -> bool
-    ensures { result ≡ is_turn frame.now g }
+    ensures value { result ≡ is_turn frame.now g }
+    ensures few_bits { IsTrue result → g < 2 ^ 32 }
 {
     g % 2 == 1 && 3 <= g && g < 2 * u64::from(frame.n())
 }
 
-/// What is known once a rotation is a node.
-fn with_rotation(draft: Draft, begun: OpenCircuit, g: u32, of: u32) -> Result<Place, Fault>
-    ensures { Follows (Ok (place.InCircuit (record draft { turns = with_turn draft.turns g }) (with_node begun (node.Rot g of)))) result }
+/// Uses a rotation; where memory is wanting nothing has changed.
+fn use_turn(turns: &mut Ids, g: u32) -> Result<(), AllocError>
+    ensures ok { OnOk result (turns.new ≡ with_turn turns.old g) }
+    ensures err { OnErr result (turns.new ≡ turns.old) }
 {
-    let (mut draft, mut begun) = (draft, begun);
-    if !is_used(&draft.turns, u64::from(g)) {
-        draft.turns.push(g)?;
+    if !is_used(turns, u64::from(g)) {
+        turns.push(g)?;
     }
-    begun.nodes.push(Node::Rot { g, of })?;
-    Ok(Place::InCircuit { draft, begun })
+    Ok(())
 }
 
 /// `rot g a`
 #[tactic(auto, unfolding(crate::specs::CircuitLines::rot_statement))]
 pub(crate) fn rot_statement(
-    draft: Draft,
-    begun: OpenCircuit,
+    draft: &mut Draft,
+    begun: &mut OpenCircuit,
     words: &[&[u8]],
-) -> Result<Place, Fault>
-    ensures { Follows (rot_statement draft begun (texts words.now)) result }
+) -> Result<(), Fault>
+    ensures { Leaves (rot_statement draft.old begun.old (texts words.now)) (place.InCircuit draft.new begun.new) result }
 {
     unless(words.len() == 3, Reason::Word)?;
     let g = number_at(words, 1)?;
     let of = number_at(words, 2)?;
     let may_turn = is_used(&draft.turns, g) || draft.turns.len() < 16;
-    unless(has_room(&begun) && may_turn, Reason::Limit)?;
+    unless(has_room(begun) && may_turn, Reason::Limit)?;
     unless(
-        is_turn(&draft.frame, g) && is_earlier(&begun, of),
+        is_turn(&draft.frame, g) && is_earlier(begun, of),
         Reason::Node,
     )?;
-    with_rotation(draft, begun, g as u32, of as u32)
+    use_turn(&mut draft.turns, g as u32)?;
+    begun.nodes.push(Node::Rot {
+        g: g as u32,
+        of: of as u32,
+    })?;
+    Ok(())
 }
 
 /// A node that changes its circuit alone.
