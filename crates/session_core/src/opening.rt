@@ -1,7 +1,8 @@
 ghost use Rattle.std.specs.Prelude.{◌≡◌, ◌≤◌, true, [], length, All, IfOk};
 ghost use Rattle.session_spec.specs.Settings.{Keeps};
+ghost use Rattle.session_spec.specs.Stores.{empty};
 ghost use Rattle.session_state.specs.Parts.{setting_by};
-ghost use Rattle.session_state.specs.Standings.{setting};
+ghost use Rattle.session_state.specs.Standings.{setting, store};
 ghost use Rattle.session_core.specs.Sessions.{HasTold};
 
 use crate::{Circuits, Session};
@@ -29,6 +30,7 @@ impl<R: Roll> Session<R> {
         requires most_calls { max_calls ≤ 8388608 }
         ensures log { IfOk result (λ session. session.log.items ≡ []) }
         ensures setting { IfOk result (λ session. setting session.standing ≡ setting_by ring.value.params (R.public roll) circuits) }
+        ensures store { IfOk result (λ session. store session.standing ≡ empty (setting_by ring.value.params (R.public roll) circuits)) }
         ensures params { IfOk result (λ session. session.standing.params ≡ ring.value.params) }
         ensures roll { IfOk result (λ session. session.roll ≡ roll) }
         ensures most { IfOk result (λ session. session.max_calls ≡ max_calls) }
