@@ -3,4 +3,5 @@ pub mod Chains
 pub mod KeptLemmas
 pub mod PieceLemmas
 mod AcceptedScripts
+mod Faults
 mod RefusedScripts
