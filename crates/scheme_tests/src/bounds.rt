@@ -37,37 +37,46 @@ fn constant(alloc: Global, value: u64) -> Result<Node, AllocError> {
     })
 }
 
+/// Puts the sum of the last node with itself behind it, and where asked for the sum's negative, and tells the
+/// last node's place.
+fn step(nodes: &mut Vec<Node>, last: u32, negated: bool) -> Result<u32, AllocError> {
+    nodes.push(Node::Add {
+        left: last,
+        right: last,
+    })?;
+    let sum = last.saturating_add(1);
+    if !negated {
+        return Ok(sum);
+    }
+    nodes.push(Node::Neg { of: sum })?;
+    Ok(sum.saturating_add(1))
+}
+
 /// Nodes of which the last one has the bound `bits` - 1, for `bits` from 2^49 on and below 2^50: from a
 /// constant on, whose bound is 0, each sum of a node with itself takes V to 2V + 1, as r is 1, and
 /// each negative to V + 1.
 fn climb(alloc: Global, bits: u64) -> Result<Vec<Node>, AllocError> {
-    let mut nodes = vec![in alloc; constant(alloc, 1)?]?;
+    let one = constant(alloc, 1)?;
+    let mut nodes = vec![in alloc; one]?;
     let mut last = 0u32;
     for k in 0..49u32 {
-        nodes.push(Node::Add {
-            left: last,
-            right: last,
-        })?;
-        last = last.saturating_add(1);
-        if (bits >> (48 - k)) % 2 == 1 {
-            nodes.push(Node::Neg { of: last })?;
-            last = last.saturating_add(1);
-        }
+        last = step(&mut nodes, last, (bits >> (48 - k)) % 2 == 1)?;
     }
     Ok(nodes)
 }
 
-/// What `admit` answers of some nodes, if they are a circuit.
-fn answer_of(
+/// Whether some nodes are a circuit of which `admit` answers this.
+fn answers(
     alloc: Global,
     params: &Params,
     nodes: Vec<Node>,
-) -> Result<Option<Result<u128, Over>>, AllocError> {
+    answer: Result<u128, Over>,
+) -> Result<bool, AllocError> {
     match Circuit::new(params, nodes) {
-        Err(_) => Ok(None),
+        Err(_) => Ok(false),
         Ok(circuit) => {
             let mut bounds = vec![in alloc; UNTOUCHED; circuit.len() as usize]?;
-            Ok(Some(admit(params, &circuit, bounds.as_mut_slice())))
+            Ok(admit(params, &circuit, bounds.as_mut_slice()) == answer)
         }
     }
 }
@@ -94,79 +103,139 @@ fn gives_the_rows(rt: HostRuntime) -> Result<(), Fail> {
     Ok(())
 }
 
-/// A node behind inputs of the parties 1 and 2, the bounds of the three nodes, and that of the output.
-const OF_TWO_INPUTS: [(&str, Node, [u128; 3], u128); 5] = [
-    ("sum", Node::Add { left: 0, right: 1 }, [41, 41, 83], 85),
-    (
-        "difference",
-        Node::Sub { left: 1, right: 0 },
-        [41, 41, 83],
-        85,
-    ),
-    ("negative", Node::Neg { of: 1 }, [41, 41, 42], 44),
-    (
-        "product",
-        Node::Mul { left: 0, right: 1 },
-        [41, 41, 1_350_125],
-        1_350_127,
-    ),
-    (
-        "rotation",
-        Node::Rot { g: 3, of: 0 },
-        [41, 41, 28_602],
-        28_604,
-    ),
-];
-
-/// The factors of a product behind node 0, an input, and node 1, a constant, its bound, and that of the output.
-const PRODUCTS: [(&str, u32, u32, u128, u128); 3] = [
-    ("input times constant", 0, 1, 5040, 5042),
-    ("constant times input", 1, 0, 5040, 5042),
-    ("constant times itself", 1, 1, 120, 122),
-];
+/// Whether a node behind inputs of the parties 1 and 2 gives these bounds of the three, and this of the output.
+fn bounds_behind_inputs(
+    alloc: Global,
+    params: &Params,
+    last: Node,
+    bounds: [u128; 3],
+    output: u128,
+) -> Result<bool, AllocError> {
+    let nodes = vec![in alloc; Node::Input { owner: 1 }, Node::Input { owner: 2 }, last]?;
+    gives(alloc, params, nodes, Ok(output), bounds.as_slice())
+}
 
 #[test]
 fn admits_circuits(rt: HostRuntime) -> Result<(), Fail> {
     let alloc = rt.alloc();
     let params = Params::frame(3, 2);
-    for (name, last, bounds, output) in OF_TWO_INPUTS {
-        let nodes = vec![in alloc; Node::Input { owner: 1 }, Node::Input { owner: 2 }, last]?;
-        let given = gives(alloc, &params, nodes, Ok(output), bounds.as_slice())?;
-        assert!(rt; given, "{name}");
-    }
-    for (name, left, right, bound, output) in PRODUCTS {
-        let input = Node::Input { owner: 1 };
-        let nodes = vec![in alloc; input, constant(alloc, 1)?, Node::Mul { left, right }]?;
-        let given = gives(alloc, &params, nodes, Ok(output), [41, 0, bound].as_slice())?;
-        assert!(rt; given, "{name}");
-    }
+    let sum = bounds_behind_inputs(
+        alloc,
+        &params,
+        Node::Add { left: 0, right: 1 },
+        [41, 41, 83],
+        85,
+    )?;
+    assert!(rt; sum, "sum");
+    let difference = bounds_behind_inputs(
+        alloc,
+        &params,
+        Node::Sub { left: 1, right: 0 },
+        [41, 41, 83],
+        85,
+    )?;
+    assert!(rt; difference, "difference");
+    let negative = bounds_behind_inputs(alloc, &params, Node::Neg { of: 1 }, [41, 41, 42], 44)?;
+    assert!(rt; negative, "negative");
+    Ok(())
+}
+
+#[test]
+fn admits_products_and_rotations(rt: HostRuntime) -> Result<(), Fail> {
+    let alloc = rt.alloc();
+    let params = Params::frame(3, 2);
+    let product = bounds_behind_inputs(
+        alloc,
+        &params,
+        Node::Mul { left: 0, right: 1 },
+        [41, 41, 1_350_125],
+        1_350_127,
+    )?;
+    assert!(rt; product, "product");
+    let rotation = bounds_behind_inputs(
+        alloc,
+        &params,
+        Node::Rot { g: 3, of: 0 },
+        [41, 41, 28_602],
+        28_604,
+    )?;
+    assert!(rt; rotation, "rotation");
+    Ok(())
+}
+
+/// Whether a product behind node 0, an input, and node 1, a constant, has this bound, and the output this.
+fn bounds_of_product(
+    alloc: Global,
+    params: &Params,
+    factors: (u32, u32),
+    bound: u128,
+    output: u128,
+) -> Result<bool, AllocError> {
+    let one = constant(alloc, 1)?;
+    let product = Node::Mul {
+        left: factors.0,
+        right: factors.1,
+    };
+    let nodes = vec![in alloc; Node::Input { owner: 1 }, one, product]?;
+    gives(alloc, params, nodes, Ok(output), [41, 0, bound].as_slice())
+}
+
+#[test]
+fn admits_products_with_constants(rt: HostRuntime) -> Result<(), Fail> {
+    let alloc = rt.alloc();
+    let params = Params::frame(3, 2);
+    let given = bounds_of_product(alloc, &params, (0, 1), 5040, 5042)?;
+    assert!(rt; given, "input times constant");
+    let given = bounds_of_product(alloc, &params, (1, 0), 5040, 5042)?;
+    assert!(rt; given, "constant times input");
+    let given = bounds_of_product(alloc, &params, (1, 1), 120, 122)?;
+    assert!(rt; given, "constant times itself");
+    Ok(())
+}
+
+#[test]
+fn admits_a_negative_of_a_difference(rt: HostRuntime) -> Result<(), Fail> {
+    let alloc = rt.alloc();
     let nodes = vec![in alloc;
         Node::Input { owner: 1 },
         Node::Input { owner: 2 },
         Node::Sub { left: 0, right: 1 },
         Node::Neg { of: 2 },
     ]?;
-    let given = gives(alloc, &params, nodes, Ok(86), [41, 41, 83, 84].as_slice())?;
-    assert!(rt; given, "difference, then negative");
+    let bounds = [41, 41, 83, 84];
     let given = gives(
         alloc,
-        &params,
-        vec![in alloc; constant(alloc, 7)?]?,
-        Ok(2),
-        [0].as_slice(),
+        &Params::frame(3, 2),
+        nodes,
+        Ok(86),
+        bounds.as_slice(),
     )?;
+    assert!(rt; given, "difference, then negative");
+    Ok(())
+}
+
+#[test]
+fn admits_a_constant(rt: HostRuntime) -> Result<(), Fail> {
+    let alloc = rt.alloc();
+    let seven = constant(alloc, 7)?;
+    let nodes = vec![in alloc; seven]?;
+    let given = gives(alloc, &Params::frame(3, 2), nodes, Ok(2), [0].as_slice())?;
     assert!(rt; given, "constant");
     Ok(())
+}
+
+/// An input, and behind it six products, each of the node before it with itself.
+fn products_of_products(alloc: Global) -> Result<Vec<Node>, AllocError> {
+    let mut nodes = vec![in alloc; Node::Input { owner: 1 }]?;
+    for k in 0..6u32 {
+        nodes.push(Node::Mul { left: k, right: k })?;
+    }
+    Ok(nodes)
 }
 
 #[test]
 fn names_the_first_place_over(rt: HostRuntime) -> Result<(), Fail> {
     let alloc = rt.alloc();
-    let params = Params::frame(3, 2);
-    let mut nodes = vec![in alloc; Node::Input { owner: 1 }]?;
-    for k in 0..6u32 {
-        nodes.push(Node::Mul { left: k, right: k })?;
-    }
     let over = Over {
         place: Place::Node(4),
         bound: 62_170_732_776_215_021,
@@ -181,7 +250,14 @@ fn names_the_first_place_over(rt: HostRuntime) -> Result<(), Fail> {
         UNTOUCHED,
         UNTOUCHED,
     ];
-    let given = gives(alloc, &params, nodes, Err(over), bounds.as_slice())?;
+    let nodes = products_of_products(alloc)?;
+    let given = gives(
+        alloc,
+        &Params::frame(3, 2),
+        nodes,
+        Err(over),
+        bounds.as_slice(),
+    )?;
     assert!(rt; given, "products of products");
     Ok(())
 }
@@ -191,20 +267,16 @@ fn admits_up_to_the_limit(rt: HostRuntime) -> Result<(), Fail> {
     let alloc = rt.alloc();
     let params = Params::frame(1, 1);
     let limit = 985_162_418_487_295u64;
-    for (name, last, wanted) in [
-        ("output at the limit", limit - 1, Ok(limit as u128)),
-        (
-            "output above it",
-            limit,
-            Err(Over {
-                place: Place::Output,
-                bound: limit as u128 + 1,
-                limit,
-            }),
-        ),
-    ] {
-        let given = answer_of(alloc, &params, climb(alloc, last + 1)?)?;
-        assert_eq!(rt; given, Some(wanted), "{name}");
-    }
+    let nodes = climb(alloc, limit)?;
+    let given = answers(alloc, &params, nodes, Ok(limit as u128))?;
+    assert!(rt; given, "output at the limit");
+    let over = Over {
+        place: Place::Output,
+        bound: limit as u128 + 1,
+        limit,
+    };
+    let nodes = climb(alloc, limit + 1)?;
+    let given = answers(alloc, &params, nodes, Err(over))?;
+    assert!(rt; given, "output above it");
     Ok(())
 }

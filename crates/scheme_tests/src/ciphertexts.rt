@@ -102,67 +102,128 @@ fn second(alloc: Global, ring: &Ring) -> Result<Ciphertext, AllocError>
     )
 }
 
+/// Whether the sum of the two has these parts.
+fn is_sum(alloc: Global, ring: &Ring, c0: [u64; 8], c1: [u64; 8]) -> Result<bool, AllocError>
+    requires { ring.now.params.n ≡ 8 }
+{
+    let c = first(alloc, ring)?;
+    let d = second(alloc, ring)?;
+    let sum = add(alloc, ring, &c, &d)?;
+    Ok(is(&sum, c0, c1))
+}
+
 #[test]
 fn adds_part_by_part(rt: HostRuntime) -> Result<(), Fail> {
     let alloc = rt.alloc();
     let ring = Ring::new(alloc, &Params::frame(3, 2))?;
-    let (c, d) = (first(alloc, &ring)?, second(alloc, &ring)?);
-    let sum = add(alloc, &ring, &c, &d)?;
-    assert!(rt; is(&sum, [4, 2, 0, 0, 0, 0, 0, 0], [5, Q - 2, 0, 0, 0, 0, 0, 0]));
+    let c0 = [4, 2, 0, 0, 0, 0, 0, 0];
+    let c1 = [5, Q - 2, 0, 0, 0, 0, 0, 0];
+    assert!(rt; is_sum(alloc, &ring, c0, c1)?);
     Ok(())
+}
+
+/// Whether the second taken from the first has these parts.
+fn is_difference(alloc: Global, ring: &Ring, c0: [u64; 8], c1: [u64; 8]) -> Result<bool, AllocError>
+    requires { ring.now.params.n ≡ 8 }
+{
+    let c = first(alloc, ring)?;
+    let d = second(alloc, ring)?;
+    let less = sub(alloc, ring, &c, &d)?;
+    Ok(is(&less, c0, c1))
 }
 
 #[test]
 fn subtracts_part_by_part(rt: HostRuntime) -> Result<(), Fail> {
     let alloc = rt.alloc();
     let ring = Ring::new(alloc, &Params::frame(3, 2))?;
-    let (c, d) = (first(alloc, &ring)?, second(alloc, &ring)?);
-    let less = sub(alloc, &ring, &c, &d)?;
-    assert!(rt;
-        is(
-            &less,
-            [Q - 2, 2, 0, 0, 0, 0, 0, Q - 2],
-            [5, 2, 0, 0, 0, 0, 0, 0]
-        )
-    );
+    let c0 = [Q - 2, 2, 0, 0, 0, 0, 0, Q - 2];
+    let c1 = [5, 2, 0, 0, 0, 0, 0, 0];
+    assert!(rt; is_difference(alloc, &ring, c0, c1)?);
     Ok(())
+}
+
+/// Whether the first taken from itself is zero in both parts.
+fn is_nothing(alloc: Global, ring: &Ring) -> Result<bool, AllocError>
+    requires { ring.now.params.n ≡ 8 }
+{
+    let c = first(alloc, ring)?;
+    let none = sub(alloc, ring, &c, &c)?;
+    Ok(is(&none, ZERO, ZERO))
+}
+
+#[test]
+fn leaves_nothing_of_itself(rt: HostRuntime) -> Result<(), Fail> {
+    let alloc = rt.alloc();
+    let ring = Ring::new(alloc, &Params::frame(3, 2))?;
+    assert!(rt; is_nothing(alloc, &ring)?);
+    Ok(())
+}
+
+/// The negative of the first.
+fn negated(alloc: Global, ring: &Ring) -> Result<Ciphertext, AllocError>
+    requires { ring.now.params.n ≡ 8 }
+    ensures { IfOk result (λ c. CipherFits ring.now.params.q ring.now.params.n c) }
+{
+    let c = first(alloc, ring)?;
+    neg(alloc, ring, &c)
 }
 
 #[test]
 fn takes_the_negative_of_both_parts(rt: HostRuntime) -> Result<(), Fail> {
     let alloc = rt.alloc();
     let ring = Ring::new(alloc, &Params::frame(3, 2))?;
-    let c = first(alloc, &ring)?;
-    let less = neg(alloc, &ring, &c)?;
-    assert!(rt;
-        is(
-            &less,
-            [Q - 1, Q - 2, 0, 0, 0, 0, 0, 1],
-            [Q - 5, 0, 0, 0, 0, 0, 0, 0]
-        )
-    );
+    let c0 = [Q - 1, Q - 2, 0, 0, 0, 0, 0, 1];
+    let c1 = [Q - 5, 0, 0, 0, 0, 0, 0, 0];
+    assert!(rt; is(&negated(alloc, &ring)?, c0, c1));
     Ok(())
+}
+
+/// Whether the negative's negative has these parts.
+fn is_negated_twice(
+    alloc: Global,
+    ring: &Ring,
+    c0: [u64; 8],
+    c1: [u64; 8],
+) -> Result<bool, AllocError>
+    requires { ring.now.params.n ≡ 8 }
+{
+    let once = negated(alloc, ring)?;
+    let twice = neg(alloc, ring, &once)?;
+    Ok(is(&twice, c0, c1))
+}
+
+#[test]
+fn is_itself_when_negated_twice(rt: HostRuntime) -> Result<(), Fail> {
+    let alloc = rt.alloc();
+    let ring = Ring::new(alloc, &Params::frame(3, 2))?;
+    let c0 = [1, 2, 0, 0, 0, 0, 0, Q - 1];
+    let c1 = [5, 0, 0, 0, 0, 0, 0, 0];
+    assert!(rt; is_negated_twice(alloc, &ring, c0, c1)?);
+    Ok(())
+}
+
+/// Whether a ciphertext times X has these parts.
+fn is_turned(alloc: Global, ring: &Ring, c0: [u64; 8], c1: [u64; 8]) -> Result<bool, AllocError>
+    requires degree { ring.now.params.n ≡ 8 }
+    requires modulus { ring.now.params.t ≡ 16 }
+{
+    let c = cipher(
+        alloc,
+        ring,
+        [1, 2, 0, 0, 0, 0, 0, 4],
+        [5, 0, 0, 0, 0, 0, 0, -3],
+    )?;
+    let x = plain(alloc, ring, [0, 1, 0, 0, 0, 0, 0, 0])?;
+    let turned = mul_plain(alloc, ring, &c, &x)?;
+    Ok(is(&turned, c0, c1))
 }
 
 #[test]
 fn turns_by_a_multiple_of_x(rt: HostRuntime) -> Result<(), Fail> {
     let alloc = rt.alloc();
     let ring = Ring::new(alloc, &Params::frame(3, 2))?;
-    let c = cipher(
-        alloc,
-        &ring,
-        [1, 2, 0, 0, 0, 0, 0, 4],
-        [5, 0, 0, 0, 0, 0, 0, -3],
-    )?;
-    let x = plain(alloc, &ring, [0, 1, 0, 0, 0, 0, 0, 0])?;
-    let turned = mul_plain(alloc, &ring, &c, &x)?;
-    assert!(rt;
-        is(
-            &turned,
-            [Q - 4, 1, 2, 0, 0, 0, 0, 0],
-            [3, 5, 0, 0, 0, 0, 0, 0]
-        ),
-        "turned"
-    );
+    let c0 = [Q - 4, 1, 2, 0, 0, 0, 0, 0];
+    let c1 = [3, 5, 0, 0, 0, 0, 0, 0];
+    assert!(rt; is_turned(alloc, &ring, c0, c1)?, "turned");
     Ok(())
 }

@@ -1,6 +1,6 @@
 //! Shares and answers of two whole runs with the master seed of 32 zeros, worked out by another
 //! implementation: one party alone, and the first two of three. Each run adds two inputs.
-ghost use Rattle.std.specs.Prelude.{◌≡◌, IfOk};
+ghost use Rattle.std.specs.Prelude.{◌≡◌, All, IfOk, length};
 ghost use Rattle.ring_spec.specs.Ring.{IsPoly};
 
 use decrypt_protocol::{dec_finish, dec_share};
@@ -131,6 +131,31 @@ fn poly(alloc: Global, ring: &Ring, coeffs: &[i64; 8]) -> Result<Poly, AllocErro
     of_signed(alloc, ring, coeffs)
 }
 
+/// Whether a polynomial has these coefficients.
+fn is(alloc: Global, ring: &Ring, f: &Poly, coeffs: &[i64; 8]) -> Result<bool, AllocError>
+    requires { ring.now.params.n ≡ 8 }
+{
+    let wanted = poly(alloc, ring, coeffs)?;
+    Ok(f.coeffs() == wanted.coeffs())
+}
+
+/// Whether a party's share of the decryption of c1 is this, for its seed and its part.
+fn is_share(
+    alloc: Global,
+    ring: &Ring,
+    seed: [u8; 32],
+    c1: &[i64; 8],
+    part: &[i64; 8],
+    wanted: &[i64; 8],
+) -> Result<bool, AllocError>
+    requires { ring.now.params.n ≡ 8 }
+{
+    let c1 = poly(alloc, ring, c1)?;
+    let part = poly(alloc, ring, part)?;
+    let share = dec_share(alloc, ring, seed, 2, &c1, &part)?;
+    is(alloc, ring, share.at(0), wanted)
+}
+
 #[test]
 fn shares(rt: HostRuntime) -> Result<(), Fail> {
     let alloc = rt.alloc();
@@ -140,13 +165,43 @@ fn shares(rt: HostRuntime) -> Result<(), Fail> {
         (FIRST, C1, FIRST_PART, FIRST_SHARE),
         (SECOND, C1, SECOND_PART, SECOND_SHARE),
     ] {
-        let c1 = poly(alloc, &ring, &c1)?;
-        let part = poly(alloc, &ring, &part)?;
-        let wanted = poly(alloc, &ring, &wanted)?;
-        let share = dec_share(alloc, &ring, seed, 2, &c1, &part)?;
-        assert_eq!(rt; share.at(0).coeffs(), wanted.coeffs());
+        assert!(rt; is_share(alloc, &ring, seed, &c1, &part, &wanted)?);
     }
     Ok(())
+}
+
+/// The one row of the sums of two shares.
+fn sums_of(
+    alloc: Global,
+    ring: &Ring,
+    first: &[i64; 8],
+    second: &[i64; 8],
+) -> Result<Polys, AllocError>
+    requires { ring.now.params.n ≡ 8 }
+    ensures one_row { IfOk result (λ sums. length sums ≡ 1) }
+    ensures fit { IfOk result (λ sums. All (IsPoly ring.now.params.q ring.now.params.n) sums) }
+{
+    let mut sum = poly(alloc, ring, first)?;
+    add_into(ring, &mut sum, &poly(alloc, ring, second)?);
+    let mut sums = Polys::new(alloc);
+    sums.push(sum)?;
+    Ok(sums)
+}
+
+/// Whether the first part of a ciphertext opens to 8 + X^2 with these two shares.
+fn is_opened(
+    alloc: Global,
+    ring: &Ring,
+    c0: &[i64; 8],
+    first: &[i64; 8],
+    second: &[i64; 8],
+) -> Result<bool, AllocError>
+    requires { ring.now.params.n ≡ 8 }
+{
+    let c0 = poly(alloc, ring, c0)?;
+    let sums = sums_of(alloc, ring, first, second)?;
+    let opened = dec_finish(alloc, ring, &c0, &sums)?;
+    Ok(opened.coeffs() == [8, 0, 1, 0, 0, 0, 0, 0].as_slice())
 }
 
 #[test]
@@ -157,13 +212,7 @@ fn opens(rt: HostRuntime) -> Result<(), Fail> {
         (C0_ALONE, SHARE_ALONE, [0; 8]),
         (C0, FIRST_SHARE, SECOND_SHARE),
     ] {
-        let c0 = poly(alloc, &ring, &c0)?;
-        let mut sum = poly(alloc, &ring, &first)?;
-        add_into(&ring, &mut sum, &poly(alloc, &ring, &second)?);
-        let mut sums = Polys::new(alloc);
-        sums.push(sum)?;
-        let opened = dec_finish(alloc, &ring, &c0, &sums)?;
-        assert_eq!(rt; opened.coeffs(), [8, 0, 1, 0, 0, 0, 0, 0].as_slice());
+        assert!(rt; is_opened(alloc, &ring, &c0, &first, &second)?);
     }
     Ok(())
 }

@@ -1,6 +1,7 @@
 //! Small circuits over inputs without noise, whose second part is zero, against plaintexts worked out by
 //! hand, at n = 8 and t = 16.
-ghost use Rattle.std.specs.Prelude.{◌≡◌, ◌<◌, All, IfOk};
+ghost use Rattle.std.specs.Prelude.{◌≡◌, ◌<◌, All, IfOk, None};
+ghost use Rattle.circuit_form.specs.Circuits.{first_fault};
 ghost use Rattle.bfv_core.specs.Fits.{CipherFits};
 
 use bfv_core::{Ciphertext, round_phase, trivial};
@@ -58,116 +59,155 @@ fn opened(alloc: Global, ring: &Ring, c: &Ciphertext) -> Result<Option<Plain>, A
     }
 }
 
-/// What the output of some nodes opens to, if they are a circuit that is taken.
-fn value_of(alloc: Global, nodes: Vec<Node>) -> Result<Option<Plain>, AllocError> {
-    let ring = Ring::new(alloc, &Params::frame(3, 2))?;
-    let Ok(circuit) = Circuit::new(ring.params(), nodes) else {
-        return Ok(None);
-    };
-    let inputs = inputs(alloc, &ring, circuit.inputs())?;
+/// What the output of a circuit opens to, if it is taken.
+fn value_in(alloc: Global, ring: &Ring, circuit: Arc<Circuit>) -> Result<Option<Plain>, AllocError>
+    requires degree { ring.now.params.n ≡ 8 }
+    requires modulus { ring.now.params.t ≡ 16 }
+    requires circuit { first_fault ring.now.params.n ring.now.params.t ring.now.params.parties circuit.value ≡ None }
+{
+    let inputs = inputs(alloc, ring, circuit.inputs())?;
     if !is_switch_free(&circuit) || inputs.len() != circuit.inputs() as usize {
         return Ok(None);
     }
-    let circuit = Arc::new(alloc, circuit)?;
     let job = Job {
         number: 0,
         circuit,
         inputs,
     };
-    let output = evaluate(alloc, &ring, &job)?;
-    opened(alloc, &ring, &output)
+    let output = evaluate(alloc, ring, &job)?;
+    opened(alloc, ring, &output)
 }
 
-/// Whether the output of some nodes opens to these coefficients.
+/// Whether some nodes are a circuit that is taken, and its output opens to these coefficients.
 fn gives(alloc: Global, nodes: Vec<Node>, coeffs: [u64; 8]) -> Result<bool, AllocError> {
-    match value_of(alloc, nodes)? {
+    let ring = Ring::new(alloc, &Params::frame(3, 2))?;
+    let Ok(circuit) = Circuit::new(ring.params(), nodes) else {
+        return Ok(false);
+    };
+    match value_in(alloc, &ring, Arc::new(alloc, circuit)?)? {
         Some(m) => Ok(m.coeffs() == coeffs.as_slice()),
         None => Ok(false),
     }
 }
 
+/// Whether a node behind inputs of the parties 1 and 3 opens to these coefficients.
+fn gives_of_two(alloc: Global, last: Node, coeffs: [u64; 8]) -> Result<bool, AllocError> {
+    let nodes = vec![in alloc; Node::Input { owner: 1 }, Node::Input { owner: 3 }, last]?;
+    gives(alloc, nodes, coeffs)
+}
+
 #[test]
 fn adds_and_subtracts_inputs(rt: HostRuntime) -> Result<(), Fail> {
     let alloc = rt.alloc();
-    let nodes = vec![in alloc;
-        Node::Input { owner: 1 },
-        Node::Input { owner: 3 },
-        Node::Add { left: 0, right: 1 },
-    ]?;
-    assert!(rt; gives(alloc, nodes, [8, 1, 0, 0, 0, 0, 0, 2])?, "sum");
-    let nodes = vec![in alloc;
-        Node::Input { owner: 1 },
-        Node::Input { owner: 3 },
-        Node::Sub { left: 0, right: 1 },
-    ]?;
-    assert!(rt;
-        gives(alloc, nodes, [14, 15, 0, 0, 0, 0, 0, 2])?,
-        "difference"
-    );
-    let nodes = vec![in alloc; Node::Input { owner: 2 }, Node::Neg { of: 0 }]?;
-    assert!(rt;
-        gives(alloc, nodes, [13, 0, 0, 0, 0, 0, 0, 14])?,
-        "negative"
-    );
-    let nodes = vec![in alloc; Node::Input { owner: 2 }]?;
-    assert!(rt; gives(alloc, nodes, [3, 0, 0, 0, 0, 0, 0, 2])?, "input");
+    let sum = Node::Add { left: 0, right: 1 };
+    let given = gives_of_two(alloc, sum, [8, 1, 0, 0, 0, 0, 0, 2])?;
+    assert!(rt; given, "sum");
+    let difference = Node::Sub { left: 0, right: 1 };
+    let given = gives_of_two(alloc, difference, [14, 15, 0, 0, 0, 0, 0, 2])?;
+    assert!(rt; given, "difference");
     Ok(())
+}
+
+#[test]
+fn takes_an_input_and_its_negative(rt: HostRuntime) -> Result<(), Fail> {
+    let alloc = rt.alloc();
+    let nodes = vec![in alloc; Node::Input { owner: 2 }, Node::Neg { of: 0 }]?;
+    let given = gives(alloc, nodes, [13, 0, 0, 0, 0, 0, 0, 14])?;
+    assert!(rt; given, "negative");
+    let nodes = vec![in alloc; Node::Input { owner: 2 }]?;
+    let given = gives(alloc, nodes, [3, 0, 0, 0, 0, 0, 0, 2])?;
+    assert!(rt; given, "input");
+    Ok(())
+}
+
+/// A constant of eight coefficients.
+fn constant(alloc: Global, coeffs: [u64; 8]) -> Result<Node, AllocError> {
+    Ok(Node::Const {
+        value: plain(alloc, coeffs)?,
+    })
+}
+
+/// Whether the product of two nodes opens to these coefficients.
+fn product_gives(
+    alloc: Global,
+    left: Node,
+    right: Node,
+    coeffs: [u64; 8],
+) -> Result<bool, AllocError> {
+    let nodes = vec![in alloc; left, right, Node::Mul { left: 0, right: 1 }]?;
+    gives(alloc, nodes, coeffs)
 }
 
 #[test]
 fn multiplies_by_constants(rt: HostRuntime) -> Result<(), Fail> {
     let alloc = rt.alloc();
-    let value = plain(alloc, [0, 3, 0, 0, 0, 0, 0, 0])?;
-    let nodes = vec![in alloc;
-        Node::Input { owner: 1 },
-        Node::Const { value },
-        Node::Mul { left: 0, right: 1 },
-    ]?;
-    assert!(rt;
-        gives(alloc, nodes, [10, 9, 0, 0, 0, 0, 0, 0])?,
-        "on the right"
-    );
-    let value = plain(alloc, [0, 3, 0, 0, 0, 0, 0, 0])?;
-    let nodes = vec![in alloc;
-        Node::Const { value },
-        Node::Input { owner: 1 },
-        Node::Mul { left: 0, right: 1 },
-    ]?;
-    assert!(rt;
-        gives(alloc, nodes, [10, 9, 0, 0, 0, 0, 0, 0])?,
-        "on the left"
-    );
-    let value = plain(alloc, [0, 3, 0, 0, 0, 0, 0, 15])?;
-    let nodes = vec![in alloc; Node::Const { value }]?;
-    assert!(rt; gives(alloc, nodes, [0, 3, 0, 0, 0, 0, 0, 15])?, "alone");
+    let value = constant(alloc, [0, 3, 0, 0, 0, 0, 0, 0])?;
+    let input = Node::Input { owner: 1 };
+    let given = product_gives(alloc, input, value, [10, 9, 0, 0, 0, 0, 0, 0])?;
+    assert!(rt; given, "on the right");
+    let value = constant(alloc, [0, 3, 0, 0, 0, 0, 0, 0])?;
+    let input = Node::Input { owner: 1 };
+    let given = product_gives(alloc, value, input, [10, 9, 0, 0, 0, 0, 0, 0])?;
+    assert!(rt; given, "on the left");
     Ok(())
+}
+
+#[test]
+fn takes_a_constant_alone(rt: HostRuntime) -> Result<(), Fail> {
+    let alloc = rt.alloc();
+    let value = constant(alloc, [0, 3, 0, 0, 0, 0, 0, 15])?;
+    let nodes = vec![in alloc; value]?;
+    let given = gives(alloc, nodes, [0, 3, 0, 0, 0, 0, 0, 15])?;
+    assert!(rt; given, "alone");
+    Ok(())
+}
+
+/// Whether some nodes need no key switch, if they are a circuit.
+fn need_no_switch(nodes: Vec<Node>) -> Option<bool> {
+    match Circuit::new(&Params::frame(3, 2), nodes) {
+        Err(_) => None,
+        Ok(circuit) => Some(is_switch_free(&circuit)),
+    }
+}
+
+/// The product of two inputs.
+fn product(alloc: Global) -> Result<Vec<Node>, AllocError> {
+    Ok(vec![in alloc;
+        Node::Input { owner: 1 },
+        Node::Input { owner: 2 },
+        Node::Mul { left: 0, right: 1 },
+    ]?)
+}
+
+/// An input, and a node behind it.
+fn of_one(alloc: Global, last: Node) -> Result<Vec<Node>, AllocError> {
+    Ok(vec![in alloc; Node::Input { owner: 1 }, last]?)
 }
 
 #[test]
 fn tells_circuits_that_need_a_key_switch(rt: HostRuntime) -> Result<(), Fail> {
     let alloc = rt.alloc();
-    let params = Params::frame(3, 2);
-    let product = vec![in alloc;
-        Node::Input { owner: 1 },
-        Node::Input { owner: 2 },
-        Node::Mul { left: 0, right: 1 },
-    ]?;
-    let rotation = vec![in alloc; Node::Input { owner: 1 }, Node::Rot { g: 3, of: 0 }]?;
-    let sum = vec![in alloc; Node::Input { owner: 1 }, Node::Add { left: 0, right: 0 }]?;
-    for (nodes, wanted) in [(product, false), (rotation, false), (sum, true)] {
-        let Ok(circuit) = Circuit::new(&params, nodes) else {
-            panic!(rt; "a circuit")
-        };
-        assert_eq!(rt; is_switch_free(&circuit), wanted);
-    }
+    let of_product = need_no_switch(product(alloc)?);
+    assert_eq!(rt; of_product, Some(false), "product");
+    let of_rotation = need_no_switch(of_one(alloc, Node::Rot { g: 3, of: 0 })?);
+    assert_eq!(rt; of_rotation, Some(false), "rotation");
+    let of_sum = need_no_switch(of_one(alloc, Node::Add { left: 0, right: 0 })?);
+    assert_eq!(rt; of_sum, Some(true), "sum");
     Ok(())
+}
+
+/// Whether the first part of input k has these coefficients.
+fn is_at(list: &Inputs, k: usize, coeffs: [u64; 8]) -> bool {
+    k < list.len()
+        && list.at(k).c0.coeffs() == coeffs.as_slice()
+        && list.as_slice()[k].c0.coeffs() == coeffs.as_slice()
 }
 
 #[test]
 fn keeps_inputs_in_order(rt: HostRuntime) -> Result<(), Fail> {
     let alloc = rt.alloc();
-    let ring = Ring::new(alloc, &Params::frame(3, 2))?;
     assert!(rt; Inputs::new(alloc).is_empty());
+    let ring = Ring::new(alloc, &Params::frame(3, 2))?;
     let list = inputs(alloc, &ring, 2)?;
     assert_eq!(rt; list.len(), 2);
     let first = [
@@ -180,6 +220,7 @@ fn keeps_inputs_in_order(rt: HostRuntime) -> Result<(), Fail> {
         0,
         3_940_649_673_949_184,
     ];
+    assert!(rt; is_at(&list, 0, first), "input 0");
     let second = [
         9_851_624_184_872_960,
         1_970_324_836_974_592,
@@ -190,14 +231,6 @@ fn keeps_inputs_in_order(rt: HostRuntime) -> Result<(), Fail> {
         0,
         0,
     ];
-    for (k, wanted) in [(0, first), (1, second)] {
-        assert!(rt; k < list.len());
-        assert_eq!(rt; list.at(k).c0.coeffs(), wanted.as_slice(), "input {k}");
-        assert_eq!(rt;
-            list.as_slice()[k].c0.coeffs(),
-            wanted.as_slice(),
-            "input {k}"
-        );
-    }
+    assert!(rt; is_at(&list, 1, second), "input 1");
     Ok(())
 }

@@ -1,14 +1,25 @@
 //! A table over small polynomials: n = 8 and q = 31525197391593473, three parties of which two act.
-ghost use Rattle.std.specs.Prelude.{◌≡◌};
+ghost use Rattle.std.specs.Prelude.{◌≡◌, [], ◌∷◌, All, IfOk, length, replicate};
+ghost use Rattle.ring_spec.specs.Ring.{IsPoly};
 ghost use Rattle.instance_table.specs.Tables.{awaits};
 
 use instance_table::{Brief, Count, Share, Stage, Table};
 use mod_ring::{Polys, Ring, of_signed, zero};
-use param_set::{Ids, Params};
+use param_set::Params;
 use proto_names::{PartySet, Signature};
-use std::alloc::Global;
+use std::alloc::{AllocError, Global};
+use std::process::Abort;
 use std::sync::Arc;
 use std::test::Fail;
+
+/// One row of zeros.
+fn zeros(alloc: Global, ring: &Ring) -> Result<Polys, AllocError>
+    ensures { IfOk result (λ rows. rows ≡ replicate ring.now.params.n 0 ∷ []) }
+{
+    let mut rows = Polys::new(alloc);
+    rows.push(zero(alloc, ring)?)?;
+    Ok(rows)
+}
 
 /// Issues an instance of a signature with one row, for some parties.
 #[tactic(auto, unfolding(instance_table::specs::Tables::no_sums, proto_names::specs::Names::rows_of))]
@@ -18,7 +29,7 @@ fn issue(
     ring: &Ring,
     circuit: u32,
     bits: u32,
-) -> Result<u32, Fail>
+) -> Result<u32, AllocError>
     requires { ring.now.params ≡ table.old.params }
     ensures { table.new.params ≡ table.old.params }
 {
@@ -26,20 +37,16 @@ fn issue(
         return Ok(0);
     }
     table.room(1)?;
+    let sums = zeros(alloc, ring)?;
     let signature = Signature::Dec(circuit);
-    let brief = Arc::new(
-        alloc,
-        Brief {
-            id: table.issued() + 1,
-            signature,
-            set: PartySet { bits },
-            round1: 0,
-            polys: Polys::new(alloc),
-        },
-    )?;
-    let mut sums = Polys::new(alloc);
-    sums.push(zero(alloc, ring)?)?;
-    Ok(table.issue(signature, brief, sums))
+    let brief = Brief {
+        id: table.issued() + 1,
+        signature,
+        set: PartySet { bits },
+        round1: 0,
+        polys: Polys::new(alloc),
+    };
+    Ok(table.issue(signature, Arc::new(alloc, brief)?, sums))
 }
 
 /// Whether an instance lacks the share of a party.
@@ -57,6 +64,17 @@ fn awaits(table: &Table, id: u32, party: u32) -> bool
     }
 }
 
+/// One row, a constant.
+fn row(alloc: Global, ring: &Ring, constant: i64) -> Result<Polys, AllocError>
+    requires { ring.now.params.n ≡ 8 }
+    ensures one { IfOk result (λ rows. length rows ≡ 1) }
+    ensures fits { IfOk result (λ rows. All (IsPoly ring.now.params.q ring.now.params.n) rows) }
+{
+    let mut rows = Polys::new(alloc);
+    rows.push(of_signed(alloc, ring, &[constant, 0, 0, 0, 0, 0, 0, 0])?)?;
+    Ok(rows)
+}
+
 /// Counts a share of one row, a constant, where the instance lacks it.
 #[tactic(auto, using(instance_table::proofs::Places::told_entry))]
 fn give(
@@ -66,13 +84,11 @@ fn give(
     id: u32,
     party: u32,
     constant: i64,
-) -> Result<Option<Count>, Fail>
+) -> Result<Option<Count>, AllocError>
     requires ring { ring.now.params ≡ table.old.params }
     requires degree { ring.now.params.n ≡ 8 }
     ensures ring { table.new.params ≡ table.old.params }
 {
-    let mut rows = Polys::new(alloc);
-    rows.push(of_signed(alloc, ring, &[constant, 0, 0, 0, 0, 0, 0, 0])?)?;
     let wanted = match table.sums(id) {
         Some(sums) => sums.len(),
         None => return Ok(None),
@@ -80,6 +96,7 @@ fn give(
     if wanted != 1 || !awaits(table, id, party) {
         return Ok(None);
     }
+    let rows = row(alloc, ring, constant)?;
     Ok(Some(table.count(ring, &Share { id, party, rows })))
 }
 
@@ -97,39 +114,76 @@ fn stage(table: &Table, id: u32) -> Option<Stage> {
     table.find(id).map(|instance| instance.stage)
 }
 
-/// Whether these are the numbers in a list.
-fn are(ids: &Ids, want: &[u32]) -> bool {
-    ids.as_slice() == want
+/// A table with an instance of the parties 1 and 2.
+fn opened(alloc: Global, ring: &Ring) -> Result<Table, AllocError>
+    ensures { IfOk result (λ table. table.params ≡ ring.now.params) }
+{
+    let mut table = Table::new(alloc, ring)?;
+    issue(alloc, &mut table, ring, 0, 0b11)?;
+    Ok(table)
+}
+
+#[test]
+fn issues_an_instance(rt: HostRuntime) -> Result<(), Fail> {
+    let alloc = rt.alloc();
+    let ring = Ring::new(alloc, &Params::frame(3, 2))?;
+    let mut table = Table::new(alloc, &ring)?;
+    assert_eq!(rt; issue(alloc, &mut table, &ring, 0, 0b11)?, 1);
+    assert_eq!(rt; constant(&table, 1), Some(0));
+    Ok(())
+}
+
+#[test]
+fn counts_the_first_share(rt: HostRuntime) -> Result<(), Fail> {
+    let alloc = rt.alloc();
+    let ring = Ring::new(alloc, &Params::frame(3, 2))?;
+    let mut table = opened(alloc, &ring)?;
+    let first = give(alloc, &mut table, &ring, 1, 1, -1)?;
+    assert_eq!(rt; first, Some(Count::Counted { missing: 1 }));
+    assert_eq!(rt; constant(&table, 1), Some(31_525_197_391_593_472));
+    Ok(())
+}
+
+/// Gives the share of party 1, the constant -1, and then two that aren't counted.
+fn give_thrice<R: Abort>(
+    rt: &R,
+    alloc: Global,
+    table: &mut Table,
+    ring: &Ring,
+) -> Result<(), AllocError>
+    requires ring { ring.now.params ≡ table.old.params }
+    requires degree { ring.now.params.n ≡ 8 }
+    ensures { table.new.params ≡ table.old.params }
+{
+    give(alloc, table, ring, 1, 1, -1)?;
+    let repeat = give(alloc, table, ring, 1, 1, 5)?;
+    assert_eq!(rt; repeat, None, "a repeat");
+    let stranger = give(alloc, table, ring, 1, 3, 5)?;
+    assert_eq!(rt; stranger, None, "a stranger");
+    Ok(())
+}
+
+/// Tells of an instance of the parties 1 and 2 whose row is the constant 12.
+fn is_complete<R: Abort>(rt: &R, table: &Table) {
+    assert_eq!(rt; constant(table, 1), Some(12));
+    assert_eq!(rt; stage(table, 1), Some(Stage::Complete));
+    assert_eq!(rt; table.brief(1).map(|brief| brief.set.bits), Some(0b11));
 }
 
 #[test]
 fn adds_shares_row_by_row(rt: HostRuntime) -> Result<(), Fail> {
     let alloc = rt.alloc();
     let ring = Ring::new(alloc, &Params::frame(3, 2))?;
-    let mut table = Table::new(alloc, &ring)?;
-    assert_eq!(rt; issue(alloc, &mut table, &ring, 0, 0b11)?, 1);
-    assert_eq!(rt; constant(&table, 1), Some(0));
-    let first = give(alloc, &mut table, &ring, 1, 1, -1)?;
-    assert_eq!(rt; first, Some(Count::Counted { missing: 1 }));
-    assert_eq!(rt; constant(&table, 1), Some(31_525_197_391_593_472));
-    assert_eq!(rt; give(alloc, &mut table, &ring, 1, 1, 5)?, None, "a repeat");
-    assert_eq!(rt;
-        give(alloc, &mut table, &ring, 1, 3, 5)?,
-        None,
-        "a stranger"
-    );
-    assert_eq!(rt;
-        give(alloc, &mut table, &ring, 1, 2, 13)?,
-        Some(Count::Completed)
-    );
-    assert_eq!(rt; constant(&table, 1), Some(12));
-    assert_eq!(rt; stage(&table, 1), Some(Stage::Complete));
-    assert_eq!(rt; table.brief(1).map(|brief| brief.set.bits), Some(0b11));
+    let mut table = opened(alloc, &ring)?;
+    give_thrice(&rt, alloc, &mut table, &ring)?;
+    let last = give(alloc, &mut table, &ring, 1, 2, 13)?;
+    assert_eq!(rt; last, Some(Count::Completed));
+    is_complete(&rt, &table);
     Ok(())
 }
 
 /// Three instances, of which the first has the share of party 2.
-fn three(alloc: Global, ring: &Ring) -> Result<Table, Fail>
+fn three(alloc: Global, ring: &Ring) -> Result<Table, AllocError>
     requires { ring.now.params.n ≡ 8 }
 {
     let mut table = Table::new(alloc, ring)?;
@@ -140,13 +194,14 @@ fn three(alloc: Global, ring: &Ring) -> Result<Table, Fail>
     Ok(table)
 }
 
-#[test]
-fn gives_up_what_lacks_a_share(rt: HostRuntime) -> Result<(), Fail> {
-    let alloc = rt.alloc();
-    let ring = Ring::new(alloc, &Params::frame(3, 2))?;
-    let mut table = three(alloc, &ring)?;
-    assert!(rt; are(&table.pending(alloc, 2)?, &[2]));
-    table.lose(2);
+/// Whether these are the instances that lack the share of a party.
+fn lack(alloc: Global, table: &Table, party: u32, want: &[u32]) -> Result<bool, AllocError> {
+    let ids = table.pending(alloc, party)?;
+    Ok(ids.as_slice() == want)
+}
+
+/// Tells of the stages of the three instances when party 2 is lost.
+fn stages_without_the_second<R: Abort>(rt: &R, table: &Table) {
     for (id, want) in [
         (0, None),
         (1, Some(Stage::Opened)),
@@ -154,13 +209,44 @@ fn gives_up_what_lacks_a_share(rt: HostRuntime) -> Result<(), Fail> {
         (3, Some(Stage::Opened)),
         (4, None),
     ] {
-        assert_eq!(rt; stage(&table, id), want, "instance {id}");
+        assert_eq!(rt; stage(table, id), want, "instance {id}");
     }
-    assert_eq!(rt; constant(&table, 1), Some(7));
-    assert_eq!(rt; constant(&table, 2), None);
+}
+
+/// Tells of the sums of the first two of them, and of the second's brief.
+fn sums_without_the_second<R: Abort>(rt: &R, table: &Table) {
+    assert_eq!(rt; constant(table, 1), Some(7));
+    assert_eq!(rt; constant(table, 2), None);
     assert!(rt; table.brief(2).is_none());
-    assert!(rt; are(&table.pending(alloc, 3)?, &[3]));
+}
+
+#[test]
+fn gives_up_what_lacks_a_share(rt: HostRuntime) -> Result<(), Fail> {
+    let alloc = rt.alloc();
+    let ring = Ring::new(alloc, &Params::frame(3, 2))?;
+    let mut table = three(alloc, &ring)?;
+    assert!(rt; lack(alloc, &table, 2, &[2])?);
+    table.lose(2);
+    stages_without_the_second(&rt, &table);
+    sums_without_the_second(&rt, &table);
+    assert!(rt; lack(alloc, &table, 3, &[3])?);
     Ok(())
+}
+
+/// Whether the copies of the three instances are the same, and the third is the second of its signature.
+fn are_copied(alloc: Global, table: &Table) -> Result<bool, AllocError> {
+    let copies = table.instances_copied(alloc)?;
+    Ok(
+        copies.as_slice() == table.instances()
+            && copies.get(2).map(|instance| instance.attempt) == Some(2),
+    )
+}
+
+/// Gives the third instance up, where it stands.
+fn void_third(table: &mut Table) {
+    if table.brief(3).is_some() {
+        table.void(3, 1);
+    }
 }
 
 #[test]
@@ -168,12 +254,8 @@ fn gives_one_up(rt: HostRuntime) -> Result<(), Fail> {
     let alloc = rt.alloc();
     let ring = Ring::new(alloc, &Params::frame(3, 2))?;
     let mut table = three(alloc, &ring)?;
-    if table.brief(3).is_some() {
-        table.void(3, 1);
-    }
+    void_third(&mut table);
     assert_eq!(rt; stage(&table, 3), Some(Stage::Void { by: 1 }));
-    let copies = table.instances_copied(alloc)?;
-    assert_eq!(rt; copies.as_slice(), table.instances());
-    assert_eq!(rt; copies.get(2).map(|instance| instance.attempt), Some(2));
+    assert!(rt; are_copied(alloc, &table)?);
     Ok(())
 }

@@ -17,6 +17,7 @@ use param_set::{Params, Plain};
 use party_roll::*;
 use proto_names::{PartySet, Signature};
 use std::alloc::{AllocError, Global};
+use std::process::Abort;
 use std::test::Fail;
 
 fn public_of<R: Roll>(roll: &R) -> [u8; 32]
@@ -104,13 +105,31 @@ fn plain(alloc: Global, coeffs: [u64; 8]) -> Result<Plain, AllocError>
     Ok(Plain::from_vec(Vec::from_slice(alloc, coeffs.as_slice())?))
 }
 
+/// Puts a plaintext of eight equal coefficients behind the values.
+fn put(
+    alloc: Global,
+    values: &mut Values,
+    circuit: u32,
+    input: u32,
+    coeff: u64,
+) -> Result<(), AllocError> {
+    let value = plain(alloc, [coeff; 8])?;
+    values.push(circuit, input, value)
+}
+
+/// Values for two inputs.
+fn put_twice(alloc: Global) -> Result<Values, AllocError> {
+    let mut values = Values::new(alloc);
+    put(alloc, &mut values, 1, 2, 5)?;
+    put(alloc, &mut values, 2, 1, 7)?;
+    Ok(values)
+}
+
 #[test]
 fn counts_values(rt: HostRuntime) -> Result<(), Fail> {
-    let mut values = Values::new(rt.alloc());
-    assert_eq!(rt; values.is_empty(), true);
-    values.push(1, 2, plain(rt.alloc(), [5; 8])?)?;
-    values.push(2, 1, plain(rt.alloc(), [7; 8])?)?;
-    assert_eq!(rt; values.is_empty(), false);
+    assert!(rt; Values::new(rt.alloc()).is_empty());
+    let values = put_twice(rt.alloc())?;
+    assert!(rt; !values.is_empty());
     assert_eq!(rt; values.len(), 2);
     Ok(())
 }
@@ -141,42 +160,87 @@ const SHARES: [(u32, [u64; 2], [u64; 2]); 2] = [
     ),
 ];
 
+/// Whether a share of one row tells these numbers and starts so.
+fn is_told(ring: &Ring, share: &Share, id: u32, p: u32, start: [u64; 2]) -> bool
+    requires more { 2 ≤ ring.now.params.n }
+    requires one_row { length share.now.rows ≡ 1 }
+    requires fit { All (IsPoly ring.now.params.q ring.now.params.n) share.now.rows }
+{
+    (share.id, share.party, share.rows.len()) == (id, p, 1) && start_of(ring, share) == start
+}
+
+/// Whether a party has its number and makes, from the master seed of zeros, such a share.
+fn is_made(
+    alloc: Global,
+    ring: &Ring,
+    p: u32,
+    brief: &Brief,
+    id: u32,
+    start: [u64; 2],
+) -> Result<bool, AllocError>
+    requires some_party { 1 ≤ p }
+    requires of_all { p ≤ ring.now.params.parties }
+    requires more { 2 ≤ ring.now.params.n }
+    requires polys { IsBrief ring.now.params brief.now }
+    requires one_row { rows_of brief.now.signature (digit_rows ring.now.params.q ring.now.params.digit_bits) ≡ 1 }
+{
+    let roll = SeedRoll::new([0; 32]);
+    let party = SeedParty::new(alloc, ring, &roll, p, Values::new(alloc))?;
+    let share = share_of(alloc, ring, &roll, &party, brief)?;
+    Ok(number_of(&party) == p && is_told(ring, &share, id, p, start))
+}
+
+/// The brief of the public key of the first two parties.
 #[tactic(auto, unfolding(proto_names::specs::Names::rows_of))]
+fn key_brief(alloc: Global, ring: &Ring) -> Brief
+    ensures polys { IsBrief ring.now.params result }
+    ensures one_row { rows_of result.signature (digit_rows ring.now.params.q ring.now.params.digit_bits) ≡ 1 }
+{
+    Brief {
+        id: 1,
+        signature: Signature::Pk,
+        set: PartySet { bits: 3 },
+        round1: 0,
+        polys: Polys::new(alloc),
+    }
+}
+
+#[test]
+fn shares_of_a_key(rt: HostRuntime) -> Result<(), Fail> {
+    let ring = Ring::new(rt.alloc(), &Params::frame(3, 2))?;
+    let brief = key_brief(rt.alloc(), &ring);
+    for (p, start, _) in SHARES {
+        let made = is_made(rt.alloc(), &ring, p, &brief, 1, start)?;
+        assert!(rt; made, "the key of party {p}");
+    }
+    Ok(())
+}
+
+/// The brief of a decryption by the first two parties.
+#[tactic(auto, unfolding(proto_names::specs::Names::rows_of))]
+fn decryption_brief(alloc: Global, ring: &Ring) -> Result<Brief, AllocError>
+    requires { ring.now.params.n ≡ 8 }
+    ensures polys { IfOk result (λ brief. IsBrief ring.now.params brief) }
+    ensures one_row { IfOk result (λ brief. rows_of brief.signature (digit_rows ring.now.params.q ring.now.params.digit_bits) ≡ 1) }
+{
+    let mut polys = Polys::new(alloc);
+    polys.push(of_signed(alloc, ring, &C1)?)?;
+    Ok(Brief {
+        id: 2,
+        signature: Signature::Dec(0),
+        set: PartySet { bits: 3 },
+        round1: 0,
+        polys,
+    })
+}
+
 #[test]
 fn shares_of_two_of_three(rt: HostRuntime) -> Result<(), Fail> {
     let ring = Ring::new(rt.alloc(), &Params::frame(3, 2))?;
-    let roll = SeedRoll::new([0; 32]);
-    let set = PartySet { bits: 3 };
-    let key_brief = Brief {
-        id: 1,
-        signature: Signature::Pk,
-        set,
-        round1: 0,
-        polys: Polys::new(rt.alloc()),
-    };
-    let mut polys = Polys::new(rt.alloc());
-    polys.push(of_signed(rt.alloc(), &ring, &C1)?)?;
-    let decryption_brief = Brief {
-        id: 2,
-        signature: Signature::Dec(0),
-        set,
-        round1: 0,
-        polys,
-    };
-    for (p, key, decryption) in SHARES {
-        let values = Values::new(rt.alloc());
-        let party = SeedParty::new(rt.alloc(), &ring, &roll, p, values)?;
-        assert_eq!(rt; number_of(&party), p);
-        let share = share_of(rt.alloc(), &ring, &roll, &party, &key_brief)?;
-        assert_eq!(rt; (share.id, share.party, share.rows.len()), (1, p, 1));
-        assert_eq!(rt; start_of(&ring, &share), key, "the key of party {p}");
-        let share = share_of(rt.alloc(), &ring, &roll, &party, &decryption_brief)?;
-        assert_eq!(rt; (share.id, share.party, share.rows.len()), (2, p, 1));
-        assert_eq!(rt;
-            start_of(&ring, &share),
-            decryption,
-            "the decryption of party {p}"
-        );
+    let brief = decryption_brief(rt.alloc(), &ring)?;
+    for (p, _, start) in SHARES {
+        let made = is_made(rt.alloc(), &ring, p, &brief, 2, start)?;
+        assert!(rt; made, "the decryption of party {p}");
     }
     Ok(())
 }
@@ -218,18 +282,38 @@ const INPUT_C1: [u64; 8] = [
     31_525_197_391_593_465,
 ];
 
+/// 3 + X, and 5 X^2 + 7 X^7.
+fn key_of(alloc: Global, ring: &Ring) -> Result<PublicKey, AllocError>
+    requires { ring.now.params.n ≡ 8 }
+    ensures { IfOk result (λ key. KeyFits ring.now.params.q ring.now.params.n key) }
+{
+    let p0 = of_signed(alloc, ring, &[3, 1, 0, 0, 0, 0, 0, 0])?;
+    let p1 = of_signed(alloc, ring, &[0, 0, 5, 0, 0, 0, 0, 7])?;
+    Ok(PublicKey { p0, p1 })
+}
+
+/// The second party's encryption of its value for input 1 of circuit 2.
+fn second_input(alloc: Global, ring: &Ring) -> Result<Ciphertext, AllocError>
+    requires n { ring.now.params.n ≡ 8 }
+    requires t { ring.now.params.t ≡ 16 }
+    requires parties { 2 ≤ ring.now.params.parties }
+{
+    let roll = SeedRoll::new([0; 32]);
+    let values = two_values(alloc, ring)?;
+    let party = SeedParty::new(alloc, ring, &roll, 2, values)?;
+    let key = key_of(alloc, ring)?;
+    input_of(alloc, ring, &party, &key, 2, 1)
+}
+
+/// Asserts both parts of the encryption.
+fn has_parts<R: Abort>(rt: &R, c: &Ciphertext) {
+    assert_eq!(rt; c.c0.coeffs(), &INPUT_C0[..]);
+    assert_eq!(rt; c.c1.coeffs(), &INPUT_C1[..]);
+}
+
 #[test]
 fn input_of_the_second_party(rt: HostRuntime) -> Result<(), Fail> {
     let ring = Ring::new(rt.alloc(), &Params::frame(3, 2))?;
-    let key = PublicKey {
-        p0: of_signed(rt.alloc(), &ring, &[3, 1, 0, 0, 0, 0, 0, 0])?,
-        p1: of_signed(rt.alloc(), &ring, &[0, 0, 5, 0, 0, 0, 0, 7])?,
-    };
-    let values = two_values(rt.alloc(), &ring)?;
-    let roll = SeedRoll::new([0; 32]);
-    let party = SeedParty::new(rt.alloc(), &ring, &roll, 2, values)?;
-    let c = input_of(rt.alloc(), &ring, &party, &key, 2, 1)?;
-    assert_eq!(rt; c.c0.coeffs(), &INPUT_C0[..]);
-    assert_eq!(rt; c.c1.coeffs(), &INPUT_C1[..]);
+    has_parts(&rt, &second_input(rt.alloc(), &ring)?);
     Ok(())
 }

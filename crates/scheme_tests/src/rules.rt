@@ -1,79 +1,137 @@
 //! The calls for a sum of inputs of the parties 1 and 2 among three, of whom any two act.
+ghost use Rattle.std.specs.Prelude.{◌≡◌, [], length, IfOk};
+
 use circuit_form::{Circuit, Node};
 use param_set::{Ids, Params};
 use proto_names::{Instance, PartySet, Signature, Stage};
 use session_rules::{
     CircuitState, Fixed, Given, Move, Plan, PlanList, next_ready, plan_of, planned_moves,
 };
+use std::alloc::{AllocError, Global};
 use std::test::Fail;
+
+/// The list of one plan.
+fn only(alloc: Global, plan: Plan) -> Result<PlanList, AllocError>
+    ensures { IfOk result (λ plans. length plans ≡ 1) }
+{
+    let mut plans = PlanList::new(alloc);
+    plans.push(plan)?;
+    Ok(plans)
+}
+
+/// What is fixed for the circuit of some nodes, if they are one.
+fn fixed_of(alloc: Global, nodes: Vec<Node>) -> Result<Option<Fixed>, AllocError> {
+    let params = Params::frame(3, 2);
+    match Circuit::new(&params, nodes) {
+        Err(_) => Ok(None),
+        Ok(circuit) => {
+            let plans = only(alloc, plan_of(alloc, &params, &circuit)?)?;
+            Ok(Some(Fixed::new(alloc, &params, plans)?))
+        }
+    }
+}
+
+/// Whether this alone is the key that is needed.
+fn is_the_key(alloc: Global, fixed: &Fixed, key: Signature) -> Result<bool, AllocError> {
+    let keys = fixed.keys(alloc)?;
+    Ok(keys.as_slice() == [key].as_slice())
+}
+
+/// The sum of inputs of the parties 1 and 2.
+fn sum(alloc: Global) -> Result<Vec<Node>, AllocError> {
+    Ok(vec![in alloc;
+        Node::Input { owner: 1 },
+        Node::Input { owner: 2 },
+        Node::Add { left: 0, right: 1 },
+    ]?)
+}
 
 #[test]
 fn fixes_what_circuits_need(rt: HostRuntime) -> Result<(), Fail> {
     let alloc = rt.alloc();
-    let params = Params::frame(3, 2);
-    let nodes = vec![in alloc;
-        Node::Input { owner: 1 },
-        Node::Input { owner: 2 },
-        Node::Add { left: 0, right: 1 },
-    ]?;
-    let made = Circuit::new(&params, nodes);
-    assert!(rt; made.is_ok());
-    if let Ok(sum) = made {
-        let mut plans = PlanList::new(alloc);
-        plans.push(plan_of(alloc, &params, &sum)?)?;
-        let fixed = Fixed::new(alloc, &params, plans)?;
-        assert_eq!(rt; (fixed.threshold, fixed.rows), (2, 7));
-        assert_eq!(rt; fixed.keys(alloc)?.as_slice(), [Signature::Pk].as_slice());
-    }
+    let Some(fixed) = fixed_of(alloc, sum(alloc)?)? else {
+        panic!(rt; "no circuit")
+    };
+    assert_eq!(rt; (fixed.threshold, fixed.rows), (2, 7));
+    assert!(rt; is_the_key(alloc, &fixed, Signature::Pk)?);
     Ok(())
+}
+
+/// What is fixed for the sum.
+fn fixed_for_sum(alloc: Global) -> Result<Fixed, AllocError>
+    ensures plans { IfOk result (λ fixed. length fixed.plans ≡ 1) }
+    ensures turns { IfOk result (λ fixed. fixed.turns ≡ []) }
+{
+    let owners = Ids::from_vec(vec![in alloc; 1, 2]?);
+    let plan = Plan {
+        owners,
+        product: false,
+        turns: Ids::new(alloc),
+        opening: CircuitState::Idle,
+    };
+    Ok(Fixed {
+        threshold: 2,
+        rows: 7,
+        plans: only(alloc, plan)?,
+        turns: Ids::new(alloc),
+    })
+}
+
+/// The parties 2 and 3.
+const SET: PartySet = PartySet { bits: 6 };
+
+/// Whether this is the only move, with the set present and nothing issued.
+fn is_the_move(alloc: Global, fixed: &Fixed, wanted: Move) -> Result<bool, AllocError>
+    requires plans { length fixed.now.plans ≡ 1 }
+    requires turns { fixed.now.turns ≡ [] }
+{
+    let needed = fixed.keys(alloc)?;
+    let idle = [CircuitState::Idle];
+    let issued = Vec::new(alloc);
+    let moves = planned_moves(alloc, fixed, needed.as_slice(), &SET, issued, &idle)?;
+    Ok(moves.as_slice() == [wanted].as_slice())
+}
+
+/// The circuit that may be evaluated, with the key complete and so many inputs missing.
+fn ready(alloc: Global, fixed: &Fixed, missing: usize) -> Result<Option<u32>, AllocError>
+    requires { length fixed.now.plans ≡ 1 }
+{
+    let complete = [Instance {
+        id: 1,
+        signature: Signature::Pk,
+        set: SET,
+        attempt: 1,
+        sent: SET,
+        stage: Stage::Complete,
+        round1: 0,
+    }];
+    let given = vec![in alloc; Given::none(alloc, missing)?]?;
+    let idle = [CircuitState::Idle];
+    Ok(next_ready(fixed, &complete, given.as_slice(), &idle))
+}
+
+/// The same with two inputs missing, and with none.
+fn ready_before_and_after(
+    alloc: Global,
+    fixed: &Fixed,
+) -> Result<(Option<u32>, Option<u32>), AllocError>
+    requires { length fixed.now.plans ≡ 1 }
+{
+    let before = ready(alloc, fixed, 2)?;
+    let after = ready(alloc, fixed, 0)?;
+    Ok((before, after))
 }
 
 #[test]
 fn finds_out_what_comes_next(rt: HostRuntime) -> Result<(), Fail> {
     let alloc = rt.alloc();
-    let mut plans = PlanList::new(alloc);
-    plans.push(Plan {
-        owners: Ids::from_vec(vec![in alloc; 1, 2]?),
-        product: false,
-        turns: Ids::new(alloc),
-        opening: CircuitState::Idle,
-    })?;
-    let fixed = Fixed {
-        threshold: 2,
-        rows: 7,
-        plans,
-        turns: Ids::new(alloc),
-    };
-    let needed = fixed.keys(alloc)?;
-    let set = PartySet { bits: 6 };
-    let idle = [CircuitState::Idle];
-    let issued = Vec::new(alloc);
-    let moves = planned_moves(alloc, &fixed, needed.as_slice(), &set, issued, &idle)?;
+    let fixed = fixed_for_sum(alloc)?;
     let key = Move::Issue {
         signature: Signature::Pk,
-        set,
+        set: SET,
         round1: 0,
     };
-    assert_eq!(rt; moves.as_slice(), [key].as_slice());
-
-    let complete = [Instance {
-        id: 1,
-        signature: Signature::Pk,
-        set,
-        attempt: 1,
-        sent: set,
-        stage: Stage::Complete,
-        round1: 0,
-    }];
-    let given = vec![in alloc; Given::none(alloc, 2)?]?;
-    assert_eq!(rt;
-        next_ready(&fixed, &complete, given.as_slice(), &idle),
-        None
-    );
-    let given = vec![in alloc; Given::none(alloc, 0)?]?;
-    assert_eq!(rt;
-        next_ready(&fixed, &complete, given.as_slice(), &idle),
-        Some(0)
-    );
+    assert!(rt; is_the_move(alloc, &fixed, key)?);
+    assert_eq!(rt; ready_before_and_after(alloc, &fixed)?, (None, Some(0)));
     Ok(())
 }

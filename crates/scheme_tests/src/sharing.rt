@@ -6,22 +6,39 @@ use param_set::{ParamFault, Params, RawParams};
 use proto_names::PartySet;
 use shamir_ring::*;
 use std::alloc::{AllocError, Global};
+use std::process::Abort;
 use std::test::Fail;
 
-/// The sum of three polynomials.
-fn sum_of(
-    alloc: Global,
-    ring: &Ring,
-    first: Poly,
-    second: Poly,
-    third: Poly,
-) -> Result<Poly, AllocError>
-    requires first { IsPoly ring.now.params.q ring.now.params.n first }
-    requires second { IsPoly ring.now.params.q ring.now.params.n second }
-    requires third { IsPoly ring.now.params.q ring.now.params.n third }
+/// What the dealer with a seed deals to a party.
+fn dealt(alloc: Global, ring: &Ring, seed: [u8; 32], point: u32) -> Result<Poly, AllocError>
+    requires some_party { 1 ≤ point }
+    requires of_all { point ≤ ring.now.params.parties }
     ensures { IfOk result (λ f. IsPoly ring.now.params.q ring.now.params.n f) }
 {
-    combine(alloc, ring, &[first, second, third])
+    let dealing = Dealing::new(alloc, ring, seed)?;
+    dealing.at(alloc, ring, point)
+}
+
+/// The share of a party: the sum of what three dealers deal to it.
+fn share_of(alloc: Global, ring: &Ring, point: u32) -> Result<Poly, AllocError>
+    requires some_party { 1 ≤ point }
+    requires of_all { point ≤ ring.now.params.parties }
+    ensures { IfOk result (λ f. IsPoly ring.now.params.q ring.now.params.n f) }
+{
+    let a = dealt(alloc, ring, [1; 32], point)?;
+    let b = dealt(alloc, ring, [2; 32], point)?;
+    let c = dealt(alloc, ring, [3; 32], point)?;
+    combine(alloc, ring, &[a, b, c])
+}
+
+/// What a party of a set takes part with.
+fn part_of(alloc: Global, ring: &Ring, set: PartySet, point: u32) -> Result<Poly, AllocError>
+    requires some_party { 1 ≤ point }
+    requires of_all { point ≤ ring.now.params.parties }
+    ensures { IfOk result (λ f. IsPoly ring.now.params.q ring.now.params.n f) }
+{
+    let share = share_of(alloc, ring, point)?;
+    additive(alloc, ring, &share, set, point)
 }
 
 /// What two parties of a set make of their shares.
@@ -29,14 +46,16 @@ fn together(
     alloc: Global,
     ring: &Ring,
     set: PartySet,
-    first: (u32, &Poly),
-    second: (u32, &Poly),
+    first: u32,
+    second: u32,
 ) -> Result<Poly, AllocError>
-    requires first { IsPoly ring.now.params.q ring.now.params.n first.1.now }
-    requires second { IsPoly ring.now.params.q ring.now.params.n second.1.now }
+    requires first { 1 ≤ first }
+    requires first_of_all { first ≤ ring.now.params.parties }
+    requires second { 1 ≤ second }
+    requires second_of_all { second ≤ ring.now.params.parties }
 {
-    let one = additive(alloc, ring, first.1, set, first.0)?;
-    let other = additive(alloc, ring, second.1, set, second.0)?;
+    let one = part_of(alloc, ring, set, first)?;
+    let other = part_of(alloc, ring, set, second)?;
     reconstruct(alloc, ring, &[one, other])
 }
 
@@ -57,43 +76,40 @@ fn composite() -> Result<Params, ParamFault>
     })
 }
 
-#[test]
-fn any_two_of_three_have_the_secret_modulo_a_product(rt: HostRuntime) -> Result<(), Fail> {
-    let alloc = rt.alloc();
-    let ring = Ring::new(alloc, &composite()?)?;
-    let a = Dealing::new(alloc, &ring, [1; 32])?;
-    let b = Dealing::new(alloc, &ring, [2; 32])?;
-    let c = Dealing::new(alloc, &ring, [3; 32])?;
-    let one = sum_of(
-        alloc,
-        &ring,
-        a.at(alloc, &ring, 1)?,
-        b.at(alloc, &ring, 1)?,
-        c.at(alloc, &ring, 1)?,
-    )?;
-    let two = sum_of(
-        alloc,
-        &ring,
-        a.at(alloc, &ring, 2)?,
-        b.at(alloc, &ring, 2)?,
-        c.at(alloc, &ring, 2)?,
-    )?;
-    let three = sum_of(
-        alloc,
-        &ring,
-        a.at(alloc, &ring, 3)?,
-        b.at(alloc, &ring, 3)?,
-        c.at(alloc, &ring, 3)?,
-    )?;
-    let secret = together(alloc, &ring, PartySet { bits: 3 }, (1, &one), (2, &two))?;
-    let same = together(alloc, &ring, PartySet { bits: 5 }, (1, &one), (3, &three))?;
-    let again = together(alloc, &ring, PartySet { bits: 6 }, (3, &three), (2, &two))?;
-    assert_eq!(rt; same.coeffs(), secret.coeffs());
-    assert_eq!(rt; again.coeffs(), secret.coeffs());
+/// Whether two parties of a set make this secret of their shares.
+fn is_secret(
+    alloc: Global,
+    ring: &Ring,
+    set: PartySet,
+    first: u32,
+    second: u32,
+    secret: &Poly,
+) -> Result<bool, AllocError>
+    requires first { 1 ≤ first }
+    requires first_of_all { first ≤ ring.now.params.parties }
+    requires second { 1 ≤ second }
+    requires second_of_all { second ≤ ring.now.params.parties }
+{
+    let made = together(alloc, ring, set, first, second)?;
+    Ok(made.coeffs() == secret.coeffs())
+}
+
+/// Asserts that no coefficient of a secret is more than three parts.
+fn is_small<R: Abort>(rt: &R, ring: &Ring, secret: &Poly) {
     let q = ring.params().q();
     for x in secret.coeffs() {
         assert!(rt; *x <= 3 || q - 3 <= *x, "{x} is more than three parts");
     }
+}
+
+#[test]
+fn any_two_of_three_have_the_secret_modulo_a_product(rt: HostRuntime) -> Result<(), Fail> {
+    let alloc = rt.alloc();
+    let ring = Ring::new(alloc, &composite()?)?;
+    let secret = together(alloc, &ring, PartySet { bits: 3 }, 1, 2)?;
+    assert!(rt; is_secret(alloc, &ring, PartySet { bits: 5 }, 1, 3, &secret)?);
+    assert!(rt; is_secret(alloc, &ring, PartySet { bits: 6 }, 3, 2, &secret)?);
+    is_small(&rt, &ring, &secret);
     Ok(())
 }
 
