@@ -6,10 +6,11 @@ use ring_draws::{small, ternary, uniform, wide};
 use std::test::Fail;
 use word_tape::Tape;
 
+const Q: u64 = 31_525_197_391_593_473;
+
 #[test]
 fn draws_coefficients_in_order(rt: HostRuntime) -> Result<(), Fail> {
-    let params = Params::frame(1, 1);
-    let ring = Ring::new(rt.alloc(), &params)?;
+    let ring = Ring::new(rt.alloc(), &Params::frame(1, 1))?;
     let mut tape = Tape::new([0; 32], 0);
     let drawn = uniform(rt.alloc(), &ring, &mut tape)?;
     assert_eq!(rt;
@@ -26,33 +27,49 @@ fn draws_coefficients_in_order(rt: HostRuntime) -> Result<(), Fail> {
         ]
         .as_slice()
     );
+    Ok(())
+}
 
+#[test]
+fn draws_small_coefficients(rt: HostRuntime) -> Result<(), Fail> {
+    let ring = Ring::new(rt.alloc(), &Params::frame(1, 1))?;
     let mut tape = Tape::new([0; 32], 0);
     let drawn = small(rt.alloc(), &ring, 3, &mut tape)?;
-    let q = 31_525_197_391_593_473;
     assert_eq!(rt;
         drawn.coeffs(),
-        [2, 1, q - 1, q - 2, 0, 3, q - 1, q - 3].as_slice()
+        [2, 1, Q - 1, Q - 2, 0, 3, Q - 1, Q - 3].as_slice()
     );
+    Ok(())
+}
+
+#[test]
+fn draws_ternary_coefficients(rt: HostRuntime) -> Result<(), Fail> {
+    let ring = Ring::new(rt.alloc(), &Params::frame(1, 1))?;
     let mut tape = Tape::new([0; 32], 0);
     let drawn = ternary(rt.alloc(), &ring, &mut tape)?;
     assert_eq!(rt;
         drawn.coeffs(),
-        [q - 1, q - 1, q - 1, 1, 1, q - 1, 1, 1].as_slice()
+        [Q - 1, Q - 1, Q - 1, 1, 1, Q - 1, 1, 1].as_slice()
     );
+    Ok(())
+}
+
+#[test]
+fn draws_wide_coefficients(rt: HostRuntime) -> Result<(), Fail> {
+    let ring = Ring::new(rt.alloc(), &Params::frame(1, 1))?;
     let mut tape = Tape::new([0; 32], 0);
     let drawn = wide(rt.alloc(), &ring, 1_099_511_627_776, &mut tape)?;
     assert_eq!(rt;
         drawn.coeffs(),
         [
             690_107_226_494,
-            q - 739_181_724_035,
+            Q - 739_181_724_035,
             690_282_585_079,
             600_432_160_749,
             349_973_945_775,
-            q - 308_167_803_125,
-            q - 1_005_212_536_098,
-            q - 333_238_283_060,
+            Q - 308_167_803_125,
+            Q - 1_005_212_536_098,
+            Q - 333_238_283_060,
         ]
         .as_slice()
     );

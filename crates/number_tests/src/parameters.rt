@@ -1,5 +1,8 @@
 //! Each call once, the parameters against numbers worked out by hand.
+ghost use Rattle.std.specs.Prelude.{◌≡◌, length, IfOk};
+
 use param_set::{Field, ParamFault, Params, Plain, Plains, RawParams};
+use std::alloc::{AllocError, Global};
 use std::test::Fail;
 
 const FRAME: RawParams = RawParams {
@@ -201,21 +204,43 @@ fn names_the_first_bad_field(rt: HostRuntime) -> Result<(), Fail> {
     Ok(())
 }
 
-#[test]
-fn keeps_plaintexts(rt: HostRuntime) -> Result<(), Fail> {
-    let mut plain = Plain::new(rt.alloc());
-    assert!(rt; plain.is_empty());
+/// A plaintext to which 3 and 5 were put.
+fn three_and_five(alloc: Global) -> Result<Plain, AllocError> {
+    let mut plain = Plain::new(alloc);
     plain.push(3)?;
     plain.push(5)?;
-    assert_eq!(rt; plain.len(), 2);
-    assert_eq!(rt; plain.get(1), Some(5));
-    assert_eq!(rt; plain.get(2), None);
-    assert_eq!(rt; plain.coeffs(), [3, 5].as_slice());
+    Ok(plain)
+}
 
-    let mut plains = Plains::new(rt.alloc());
-    assert!(rt; plains.is_empty());
-    plains.push(plain)?;
-    plains.push(Plain::from_vec(vec![in rt.alloc(); 7]?))?;
+/// Whether its readers tell so.
+fn is_three_and_five(plain: &Plain) -> bool {
+    plain.len() == 2
+        && plain.get(1) == Some(5)
+        && plain.get(2).is_none()
+        && plain.coeffs() == [3, 5].as_slice()
+}
+
+#[test]
+fn keeps_plaintexts(rt: HostRuntime) -> Result<(), Fail> {
+    assert!(rt; Plain::new(rt.alloc()).is_empty());
+    assert!(rt; is_three_and_five(&three_and_five(rt.alloc())?));
+    Ok(())
+}
+
+/// Two plaintexts, of two coefficients and of one.
+fn two_plaintexts(alloc: Global) -> Result<Plains, AllocError>
+    ensures { IfOk result (λ plains. length plains ≡ 2) }
+{
+    let mut plains = Plains::new(alloc);
+    plains.push(three_and_five(alloc)?)?;
+    plains.push(Plain::from_vec(vec![in alloc; 7]?))?;
+    Ok(plains)
+}
+
+#[test]
+fn keeps_lists_of_plaintexts(rt: HostRuntime) -> Result<(), Fail> {
+    assert!(rt; Plains::new(rt.alloc()).is_empty());
+    let plains = two_plaintexts(rt.alloc())?;
     assert_eq!(rt; plains.len(), 2);
     assert_eq!(rt; plains.at(1).coeffs(), [7].as_slice());
     Ok(())

@@ -1,58 +1,112 @@
 //! Each call once, over the ring with n = 8 and q = 31525197391593473.
+ghost use Rattle.std.specs.Prelude.{◌≡◌, ◌<◌, length, IfOk};
+ghost use Rattle.ring_spec.specs.Ring.{IsPoly};
+
 use mod_ring::{
-    Polys, Ring, add_into, centre, mul, neg_into, of_residues, of_signed, residue_of, scale_into,
-    sub_into, zero,
+    Poly, Polys, Ring, add_into, centre, mul, neg_into, of_residues, of_signed, residue_of,
+    scale_into, sub_into, zero,
 };
 use param_set::Params;
+use std::alloc::{AllocError, Global};
+use std::process::Abort;
 use std::test::Fail;
+
+const Q: u64 = 31_525_197_391_593_473;
+
+/// -1 + 2 X.
+fn first(alloc: Global, ring: &Ring) -> Result<Poly, AllocError>
+    requires { ring.now.params.n ≡ 8 }
+    ensures { IfOk result (λ f. IsPoly ring.now.params.q ring.now.params.n f) }
+{
+    of_signed(alloc, ring, &[-1, 2, 0, 0, 0, 0, 0, 0])
+}
+
+/// X^7.
+fn last(alloc: Global, ring: &Ring) -> Result<Poly, AllocError>
+    requires { ring.now.params.n ≡ 8 }
+    ensures { IfOk result (λ f. IsPoly ring.now.params.q ring.now.params.n f) }
+{
+    of_signed(alloc, ring, &[0, 0, 0, 0, 0, 0, 0, 1])
+}
+
+/// Tells of the zero polynomial when it has been changed in each way.
+fn changes<R: Abort>(rt: &R, ring: &Ring, acc: &mut Poly, f: &Poly, g: &Poly)
+    requires degree { ring.now.params.n ≡ 8 }
+    requires modulus { 3 < ring.now.params.q }
+    requires acc { IsPoly ring.now.params.q ring.now.params.n acc.old }
+    requires f { IsPoly ring.now.params.q ring.now.params.n f.now }
+    requires g { IsPoly ring.now.params.q ring.now.params.n g.now }
+{
+    add_into(ring, acc, f);
+    add_into(ring, acc, f);
+    assert_eq!(rt; acc.coeffs(), [Q - 2, 4, 0, 0, 0, 0, 0, 0].as_slice());
+    sub_into(ring, acc, g);
+    assert_eq!(rt; acc.coeffs(), [Q - 2, 4, 0, 0, 0, 0, 0, Q - 1].as_slice());
+    neg_into(ring, acc);
+    assert_eq!(rt; acc.coeffs(), [2, Q - 4, 0, 0, 0, 0, 0, 1].as_slice());
+    scale_into(ring, acc, 3);
+    assert_eq!(rt; acc.coeffs(), [6, Q - 12, 0, 0, 0, 0, 0, 3].as_slice());
+    acc.set(7, 5);
+    assert_eq!(rt; acc.coeffs(), [6, Q - 12, 0, 0, 0, 0, 0, 5].as_slice());
+}
 
 #[test]
 fn computes_in_the_ring(rt: HostRuntime) -> Result<(), Fail> {
-    let params = Params::frame(1, 1);
-    let ring = Ring::new(rt.alloc(), &params)?;
-    let q = ring.params().q();
-    let f = of_signed(rt.alloc(), &ring, &[-1, 2, 0, 0, 0, 0, 0, 0])?;
-    let g = of_signed(rt.alloc(), &ring, &[0, 0, 0, 0, 0, 0, 0, 1])?;
+    let ring = Ring::new(rt.alloc(), &Params::frame(1, 1))?;
+    assert_eq!(rt; ring.params().q(), Q);
+    let f = first(rt.alloc(), &ring)?;
+    let g = last(rt.alloc(), &ring)?;
     let mut acc = zero(rt.alloc(), &ring)?;
-    add_into(&ring, &mut acc, &f);
-    add_into(&ring, &mut acc, &f);
-    assert_eq!(rt; acc.coeffs(), [q - 2, 4, 0, 0, 0, 0, 0, 0].as_slice());
-    sub_into(&ring, &mut acc, &g);
-    assert_eq!(rt; acc.coeffs(), [q - 2, 4, 0, 0, 0, 0, 0, q - 1].as_slice());
-    neg_into(&ring, &mut acc);
-    assert_eq!(rt; acc.coeffs(), [2, q - 4, 0, 0, 0, 0, 0, 1].as_slice());
-    scale_into(&ring, &mut acc, 3);
-    assert_eq!(rt; acc.coeffs(), [6, q - 12, 0, 0, 0, 0, 0, 3].as_slice());
-    acc.set(7, 5);
-    assert_eq!(rt; acc.coeffs(), [6, q - 12, 0, 0, 0, 0, 0, 5].as_slice());
+    changes(&rt, &ring, &mut acc, &f, &g);
     Ok(())
+}
+
+const MINUS_ONE: [u64; 8] = [31_525_197_391_593_472, 0, 0, 0, 0, 0, 0, 0];
+
+/// X.
+fn x(alloc: Global, ring: &Ring) -> Result<Poly, AllocError>
+    requires { ring.now.params.n ≡ 8 }
+    ensures { IfOk result (λ f. IsPoly ring.now.params.q ring.now.params.n f) }
+{
+    of_signed(alloc, ring, &[0, 1, 0, 0, 0, 0, 0, 0])
 }
 
 #[test]
 fn wraps_around_with_the_sign_changed(rt: HostRuntime) -> Result<(), Fail> {
     let params = Params::frame(1, 1);
     let ring = Ring::new(rt.alloc(), &params)?;
-    let x = of_signed(rt.alloc(), &ring, &[0, 1, 0, 0, 0, 0, 0, 0])?;
+    let x = x(rt.alloc(), &ring)?;
     let x7 = of_residues(&params, vec![in rt.alloc(); 0, 0, 0, 0, 0, 0, 0, 1]?);
     let product = mul(rt.alloc(), &ring, &x7, &x)?;
-    let minus_one = [31_525_197_391_593_472, 0, 0, 0, 0, 0, 0, 0];
-    assert_eq!(rt; product.coeffs(), minus_one.as_slice());
+    assert_eq!(rt; product.coeffs(), MINUS_ONE.as_slice());
+    Ok(())
+}
 
-    let mut list = Polys::new(rt.alloc());
-    assert!(rt; list.is_empty());
-    list.push(x)?;
-    list.push(product)?;
+/// X and -1.
+fn two(alloc: Global) -> Result<Polys, AllocError>
+    ensures { IfOk result (λ list. length list ≡ 2) }
+{
+    let ring = Ring::new(alloc, &Params::frame(1, 1))?;
+    let mut list = Polys::new(alloc);
+    list.push(x(alloc, &ring)?)?;
+    list.push(of_signed(alloc, &ring, &[-1, 0, 0, 0, 0, 0, 0, 0])?)?;
+    Ok(list)
+}
+
+#[test]
+fn keeps_lists_of_polynomials(rt: HostRuntime) -> Result<(), Fail> {
+    assert!(rt; Polys::new(rt.alloc()).is_empty());
+    let list = two(rt.alloc())?;
     assert_eq!(rt; list.len(), 2);
-    assert_eq!(rt; list.at(1).coeffs(), minus_one.as_slice());
+    assert_eq!(rt; list.at(1).coeffs(), MINUS_ONE.as_slice());
     Ok(())
 }
 
 #[test]
-fn reads_signs(rt: HostRuntime) -> Result<(), Fail> {
+fn reads_signs(rt: HostRuntime) {
     for (residue, whole) in [(0, 0), (3, 3), (4, -3), (6, -1)] {
         assert_eq!(rt; centre(7, residue), whole, "{residue}");
         assert_eq!(rt; residue_of(7, whole), residue, "{whole}");
     }
     assert_eq!(rt; residue_of(7, -14), 0);
-    Ok(())
 }

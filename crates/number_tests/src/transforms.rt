@@ -95,43 +95,79 @@ fn coefficient(f: &[u64], g: &[u64], k: usize, q: u64) -> u64
     sum
 }
 
-/// Compares a product by transforms with the sums.
-fn agrees<R: Abort>(rt: &R, alloc: Global, q: u64, psi: u64, n: u64) -> Result<(), Fail> {
-    assert!(rt; q > 1);
-    let tables = tables_for(rt, alloc, q, n, psi)?;
-    let f = sample(alloc, q, n, 3)?;
+/// The product of two samples by transforms.
+fn by_transforms(alloc: Global, tables: &Tables, q: u64, n: u64) -> Result<Vec<u64>, AllocError>
+    requires some { 0 < q }
+    requires modulus { tables.now.modulus ≡ q }
+    requires length { tables.now.length ≡ n }
+{
     let mut a = sample(alloc, q, n, 3)?;
     let mut b = sample(alloc, q, n, 5)?;
-    let g = sample(alloc, q, n, 5)?;
-    multiply(&tables, a.as_mut_slice(), b.as_mut_slice());
-    for (k, x) in a.iter().enumerate() {
-        assert_eq!(rt;
-            *x,
-            coefficient(f.as_slice(), g.as_slice(), k, q),
-            "at {k} modulo {q}"
-        );
+    multiply(tables, a.as_mut_slice(), b.as_mut_slice());
+    Ok(a)
+}
+
+/// Whether these are the coefficients of a product, by its definition.
+fn are_sums(product: &[u64], f: &[u64], g: &[u64], q: u64) -> bool
+    requires { 0 < q }
+{
+    for (k, x) in product.iter().enumerate() {
+        if *x != coefficient(f, g, k, q) {
+            return false;
+        }
     }
-    Ok(())
+    product.len() == f.len()
+}
+
+/// Compares a product by transforms with the sums.
+fn agrees<R: Abort>(rt: &R, alloc: Global, q: u64, psi: u64, n: u64) -> Result<bool, NttFault> {
+    assert!(rt; q > 1);
+    let tables = tables_for(rt, alloc, q, n, psi)?;
+    let product = by_transforms(alloc, &tables, q, n)?;
+    let f = sample(alloc, q, n, 3)?;
+    let g = sample(alloc, q, n, 5)?;
+    Ok(are_sums(product.as_slice(), f.as_slice(), g.as_slice(), q))
+}
+
+/// The product of X^(n-1) and X by transforms.
+fn turned(alloc: Global, tables: &Tables, q: u64, n: u64) -> Result<Vec<u64>, AllocError>
+    requires some { 1 < q }
+    requires modulus { tables.now.modulus ≡ q }
+    requires length { tables.now.length ≡ n }
+    requires place { 0 < n }
+{
+    let mut a = monomial(alloc, q, n, n - 1)?;
+    let mut b = monomial(alloc, q, n, 1)?;
+    multiply(tables, a.as_mut_slice(), b.as_mut_slice());
+    Ok(a)
+}
+
+/// Whether these are n coefficients of -1.
+fn are_minus_one(product: &[u64], q: u64, n: u64) -> bool
+    requires { 0 < q }
+{
+    for (k, x) in product.iter().enumerate() {
+        if *x != (if k == 0 { q - 1 } else { 0 }) {
+            return false;
+        }
+    }
+    product.len() as u64 == n
 }
 
 /// Compares X^(n-1) times X with -1.
-fn wraps<R: Abort>(rt: &R, alloc: Global, q: u64, psi: u64, n: u64) -> Result<(), Fail> {
+fn wraps<R: Abort>(rt: &R, alloc: Global, q: u64, psi: u64, n: u64) -> Result<bool, NttFault> {
     assert!(rt; q > 1);
+    assert!(rt; n > 0);
     let tables = tables_for(rt, alloc, q, n, psi)?;
-    let mut a = monomial(alloc, q, n, n - 1)?;
-    let mut b = monomial(alloc, q, n, 1)?;
-    multiply(&tables, a.as_mut_slice(), b.as_mut_slice());
-    for (k, x) in a.iter().enumerate() {
-        assert_eq!(rt; *x, if k == 0 { q - 1 } else { 0 }, "at {k} modulo {q}");
-    }
-    Ok(())
+    let product = turned(alloc, &tables, q, n)?;
+    Ok(are_minus_one(product.as_slice(), q, n))
 }
 
 #[test]
 fn products(rt: HostRuntime) -> Result<(), Fail> {
     for (q, psi, n) in CASES {
-        agrees(&rt, rt.alloc(), q, psi, n)?;
-        wraps(&rt, rt.alloc(), q, psi, n)?;
+        assert!(rt; agrees(&rt, rt.alloc(), q, psi, n)?, "modulo {q}");
+        assert!(rt; wraps(&rt, rt.alloc(), q, psi, n)?, "modulo {q}");
     }
     Ok(())
 }

@@ -1,6 +1,5 @@
 //! Values that another program computed, at both ends of the range of q and between.
 use mod_word::{Factor, Modulus};
-use std::test::Fail;
 
 /// The greatest modulus, 2^62.
 const GREATEST: u64 = 4_611_686_018_427_387_904;
@@ -87,7 +86,7 @@ const MULTIPLES: [(u64, u64, u64, u64, u64); 12] = [
 ];
 
 #[test]
-fn multiplies_and_divides(rt: HostRuntime) -> Result<(), Fail> {
+fn multiplies_and_divides(rt: HostRuntime) {
     for (q, w, x, quotient, rest) in MULTIPLES {
         assert_eq!(rt;
             multiple(q, w, x),
@@ -95,45 +94,46 @@ fn multiplies_and_divides(rt: HostRuntime) -> Result<(), Fail> {
             "{w} times {x} by {q}"
         );
     }
-    Ok(())
 }
 
+/// A modulus, two words, the residue of the first, and that of both.
+const RESIDUES: [(u64, u64, u64, u64, u64); 9] = [
+    (1, u64::MAX, u64::MAX, 0, 0),
+    (2, u64::MAX, u64::MAX, 1, 1),
+    (7, 5, 3, 5, 4),
+    (
+        31_525_197_391_593_473,
+        u64::MAX,
+        u64::MAX,
+        4_503_599_627_369_910,
+        3_860_228_252_374_245,
+    ),
+    (31_525_197_391_593_473, 31_525_197_391_593_473, 0, 0, 0),
+    (
+        31_525_197_391_593_473,
+        0,
+        31_525_197_391_593_472,
+        0,
+        27_021_597_764_223_562,
+    ),
+    (4_611_686_018_427_387_847, u64::MAX, u64::MAX, 227, 51_983),
+    (
+        4_611_686_018_427_387_847,
+        12_345_678_901_234_567_890,
+        9_876_543_210_987_654_321,
+        3_122_306_864_379_792_196,
+        4_471_381_976_999_708_048,
+    ),
+    (GREATEST, u64::MAX, u64::MAX, GREATEST - 1, GREATEST - 1),
+];
+
 #[test]
-fn reduces_one_word_and_two(rt: HostRuntime) -> Result<(), Fail> {
-    for (q, low, high, word, wide) in [
-        (1, u64::MAX, u64::MAX, 0, 0),
-        (2, u64::MAX, u64::MAX, 1, 1),
-        (7, 5, 3, 5, 4),
-        (
-            31_525_197_391_593_473,
-            u64::MAX,
-            u64::MAX,
-            4_503_599_627_369_910,
-            3_860_228_252_374_245,
-        ),
-        (31_525_197_391_593_473, 31_525_197_391_593_473, 0, 0, 0),
-        (
-            31_525_197_391_593_473,
-            0,
-            31_525_197_391_593_472,
-            0,
-            27_021_597_764_223_562,
-        ),
-        (4_611_686_018_427_387_847, u64::MAX, u64::MAX, 227, 51_983),
-        (
-            4_611_686_018_427_387_847,
-            12_345_678_901_234_567_890,
-            9_876_543_210_987_654_321,
-            3_122_306_864_379_792_196,
-            4_471_381_976_999_708_048,
-        ),
-        (GREATEST, u64::MAX, u64::MAX, GREATEST - 1, GREATEST - 1),
-    ] {
+fn reduces_one_word_and_two(rt: HostRuntime) {
+    for (q, low, high, word, wide) in RESIDUES {
         assert_eq!(rt;
             residues(q, low, high),
             Some((word, wide)),
             "{low} and {high} modulo {q}"
         );
     }
-    Ok(())
 }

@@ -1,6 +1,6 @@
 //! The program from its words to its report, over memory. The expected texts were not taken from this
 //! code.
-use edge_io::{MemSink, MemSource, read_all};
+use edge_io::{MemSink, MemSource, ReadStop, read_all};
 use helper_main::{Status, Work, run_words};
 use std::alloc::{AllocError, Global};
 use std::test::Fail;
@@ -108,13 +108,65 @@ fn words(alloc: Global, work: Work) -> Result<Vec<String>, AllocError> {
     Ok(words)
 }
 
-/// What the program answers to a script, where nothing fails.
-fn answered(alloc: Global, work: Work, bytes: &[u8]) -> Result<(Status, Vec<u8>), AllocError> {
+/// A source of some bytes, of whose reads these fail.
+fn source_of(alloc: Global, bytes: &[u8], failing: &[u64]) -> Result<MemSource, AllocError> {
+    let bytes = Vec::from_slice(alloc, bytes)?;
+    Ok(MemSource::new(bytes, Vec::from_slice(alloc, failing)?))
+}
+
+/// A sink with room, of whose writes these fail.
+fn sink_of(alloc: Global, failing: &[u64]) -> Result<MemSink, AllocError> {
+    MemSink::new(alloc, ROOM, Vec::from_slice(alloc, failing)?)
+}
+
+/// Runs the program.
+fn run(
+    alloc: Global,
+    work: Work,
+    source: &mut MemSource,
+    sink: &mut MemSink,
+) -> Result<Status, AllocError> {
     let words = words(alloc, work)?;
-    let mut source = MemSource::new(Vec::from_slice(alloc, bytes)?, Vec::new(alloc));
-    let mut sink = MemSink::new(alloc, ROOM, Vec::new(alloc))?;
-    let status = run_words(alloc, words.as_slice(), &mut source, &mut sink);
-    Ok((status, Vec::from_slice(alloc, sink.bytes())?))
+    Ok(run_words(alloc, words.as_slice(), source, sink))
+}
+
+/// Whether the program ends so and writes this text for some bytes, where these reads and these writes fail.
+fn faults(
+    alloc: Global,
+    work: Work,
+    bytes: &[u8],
+    reads: &[u64],
+    writes: &[u64],
+    status: Status,
+    text: &str,
+) -> Result<bool, AllocError> {
+    let mut source = source_of(alloc, bytes, reads)?;
+    let mut sink = sink_of(alloc, writes)?;
+    let ended = run(alloc, work, &mut source, &mut sink)?;
+    Ok(ended == status && sink.bytes() == text.as_bytes())
+}
+
+/// Whether the program ends so and writes this text for some bytes, where nothing fails.
+fn answers(
+    alloc: Global,
+    work: Work,
+    bytes: &[u8],
+    status: Status,
+    text: &str,
+) -> Result<bool, AllocError> {
+    faults(alloc, work, bytes, &[], &[], status, text)
+}
+
+/// Whether it does so for the script with these parameters, those who are present, and what stands behind.
+fn answers_script(
+    alloc: Global,
+    work: Work,
+    (params, present, rest): (&str, &str, &str),
+    status: Status,
+    text: &str,
+) -> Result<bool, AllocError> {
+    let script = script(alloc, params, present, rest)?;
+    answers(alloc, work, script.as_bytes(), status, text)
 }
 
 /// How many pieces between line feeds begin so; behind a last line feed there is an empty piece.
@@ -127,14 +179,46 @@ fn lines_with(text: &[u8], start: &str) -> usize {
 #[test]
 fn writes_whole_reports(rt: HostRuntime) -> Result<(), Fail> {
     let alloc = rt.alloc();
+    let script = (THREE, "1", SUM);
+    let open = answers_script(alloc, Work::Run, script, Status::Done, OF_OPEN)?;
+    assert!(rt; open, "open");
     let alone = format!(in alloc; "helium 1\n{ONE}\n{ALONE}")?;
-    let open = script(alloc, THREE, "1", SUM)?;
-    for (script, report) in [(alone, OF_ALONE), (open, OF_OPEN)] {
-        let (status, text) = answered(alloc, Work::Run, script.as_bytes())?;
-        assert_eq!(rt; status, Status::Done, "{report}");
-        assert_eq!(rt; text.as_slice(), report.as_bytes());
-    }
+    let whole = answers(alloc, Work::Run, alone.as_bytes(), Status::Done, OF_ALONE)?;
+    assert!(rt; whole, "alone");
     Ok(())
+}
+
+/// Whether a report begins with these lines, and has so many of instances and of events.
+fn shows(report: &[u8], text: &str, instances: usize, events: usize) -> bool {
+    report.starts_with(text.as_bytes())
+        && lines_with(report, "instance ") == instances
+        && lines_with(report, "event ") == events
+}
+
+/// Whether the program makes such a report of a script.
+fn reports(
+    alloc: Global,
+    script: &str,
+    text: &str,
+    instances: usize,
+    events: usize,
+) -> Result<bool, AllocError> {
+    let mut source = source_of(alloc, script.as_bytes(), &[])?;
+    let mut sink = sink_of(alloc, &[])?;
+    let ended = run(alloc, Work::Run, &mut source, &mut sink)?;
+    Ok(ended == Status::Done && shows(sink.bytes(), text, instances, events))
+}
+
+/// Whether it does so for the script with these parameters, those who are present, and these circuits.
+fn reports_script(
+    alloc: Global,
+    (params, present, circuits): (&str, &str, &str),
+    text: &str,
+    instances: usize,
+    events: usize,
+) -> Result<bool, AllocError> {
+    let script = script(alloc, params, present, circuits)?;
+    reports(alloc, &script, text, instances, events)
 }
 
 #[test]
@@ -174,16 +258,9 @@ fn runs_circuits(rt: HostRuntime) -> Result<(), Fail> {
             41,
         ),
     ] {
-        let script = script(alloc, params, present, circuits)?;
-        let (status, report) = answered(alloc, Work::Run, script.as_bytes())?;
-        assert_eq!(rt; status, Status::Done, "{text}");
-        assert!(rt; report.starts_with(text.as_bytes()), "{text}");
-        assert_eq!(rt;
-            lines_with(report.as_slice(), "instance "),
-            instances,
-            "{text}"
-        );
-        assert_eq!(rt; lines_with(report.as_slice(), "event "), events, "{text}");
+        let script = (params, present, circuits);
+        let so = reports_script(alloc, script, text, instances, events)?;
+        assert!(rt; so, "{text}");
     }
     Ok(())
 }
@@ -229,10 +306,9 @@ fn checks_circuits(rt: HostRuntime) -> Result<(), Fail> {
         ),
         (ONE, "lane\nquit\nend\n", "limit 985162418487295\n"),
     ] {
-        let script = script(alloc, params, "", circuits)?;
-        let (status, written) = answered(alloc, Work::Check, script.as_bytes())?;
-        assert_eq!(rt; status, Status::Done, "{text}");
-        assert_eq!(rt; written.as_slice(), text.as_bytes());
+        let script = (params, "", circuits);
+        let so = answers_script(alloc, Work::Check, script, Status::Done, text)?;
+        assert!(rt; so, "{text}");
     }
     Ok(())
 }
@@ -278,70 +354,112 @@ fn refuses_scripts(rt: HostRuntime) -> Result<(), Fail> {
         (Work::Run, THREE, "lane\nend\n", "refused form\n"),
         (Work::Run, THREE, "workers 2 0\n", "refused form\n"),
     ] {
-        let script = script(alloc, params, "1 2", rest)?;
-        let (status, written) = answered(alloc, work, script.as_bytes())?;
-        assert_eq!(rt; status, Status::Script, "{text}");
-        assert_eq!(rt; written.as_slice(), text.as_bytes());
+        let script = (params, "1 2", rest);
+        let so = answers_script(alloc, work, script, Status::Script, text)?;
+        assert!(rt; so, "{text}");
     }
+    Ok(())
+}
+
+#[test]
+fn refuses_cut_scripts(rt: HostRuntime) -> Result<(), Fail> {
+    let alloc = rt.alloc();
+    let whole = script(alloc, THREE, "1 2 3", SUM)?;
+    assert!(rt; whole.len() >= 17);
+    let cut = &whole.as_bytes()[..whole.len() - 17];
+    let refused = answers(
+        alloc,
+        Work::Run,
+        cut,
+        Status::Script,
+        "refused line 8 end\n",
+    )?;
+    assert!(rt; refused, "cut");
+    let refused = answers(
+        alloc,
+        Work::Run,
+        &[],
+        Status::Script,
+        "refused line 1 end\n",
+    )?;
+    assert!(rt; refused, "empty");
+    Ok(())
+}
+
+/// Whether the program refuses so many line feeds by this text.
+fn refuses_blanks(alloc: Global, count: usize, text: &str) -> Result<bool, AllocError> {
+    let blanks = vec![in alloc; b'\n'; count]?;
+    answers(alloc, Work::Run, blanks.as_slice(), Status::Script, text)
+}
+
+#[test]
+fn refuses_long_scripts(rt: HostRuntime) -> Result<(), Fail> {
+    let longest = refuses_blanks(rt.alloc(), 1_048_576, "refused line 1048577 end\n")?;
+    assert!(rt; longest, "longest");
+    let too_long = refuses_blanks(rt.alloc(), 1_048_577, "refused long\n")?;
+    assert!(rt; too_long, "too long");
     Ok(())
 }
 
 #[test]
 fn tells_faults(rt: HostRuntime) -> Result<(), Fail> {
     let alloc = rt.alloc();
-    let words = words(alloc, Work::Run)?;
-    let whole = script(alloc, THREE, "1 2 3", SUM)?.into_bytes();
-    assert!(rt; whole.len() >= 17);
-    let cut = Vec::from_slice(alloc, &whole.as_slice()[..whole.len() - 17])?;
-    let empty = Vec::new(alloc);
-    let longest = vec![in alloc; b'\n'; 1_048_576]?;
-    let too_long = vec![in alloc; b'\n'; 1_048_577]?;
-    // The script, the number of the read that fails, that of the write, the status, and the text.
-    for (bytes, read, write, status, text) in [
-        (&cut, 9, 9, Status::Script, "refused line 8 end\n"),
-        (&empty, 9, 9, Status::Script, "refused line 1 end\n"),
-        (
-            &longest,
-            99,
-            9,
-            Status::Script,
-            "refused line 1048577 end\n",
-        ),
-        (&too_long, 99, 9, Status::Script, "refused long\n"),
-        (&whole, 2, 9, Status::Read, ""),
-        (&whole, 9, 1, Status::Write, ""),
-    ] {
-        let mut source = MemSource::new(bytes.clone()?, vec![in alloc; read]?);
-        let mut sink = MemSink::new(alloc, ROOM, vec![in alloc; write]?)?;
-        let ended = run_words(alloc, words.as_slice(), &mut source, &mut sink);
-        assert_eq!(rt; ended, status, "{text}");
-        assert_eq!(rt; sink.bytes(), text.as_bytes());
+    let whole = script(alloc, THREE, "1 2 3", SUM)?;
+    // The number of the read that fails, that of the write, and the status.
+    for (read, write, status) in [(2, 9, Status::Read), (9, 1, Status::Write)] {
+        let bytes = whole.as_bytes();
+        let so = faults(alloc, Work::Run, bytes, &[read], &[write], status, "")?;
+        assert!(rt; so, "read {read}, write {write}");
     }
     Ok(())
+}
+
+/// Two words.
+fn two_words(alloc: Global, first: &str, second: &str) -> Result<Vec<String>, AllocError> {
+    let first = String::from_str(alloc, first)?;
+    let second = String::from_str(alloc, second)?;
+    Ok(vec![in alloc; first, second]?)
+}
+
+/// Whether the program tells its usage for two words.
+fn tells_usage(
+    alloc: Global,
+    first: &str,
+    second: &str,
+    source: &mut MemSource,
+) -> Result<bool, AllocError> {
+    let words = two_words(alloc, first, second)?;
+    let mut sink = MemSink::new(alloc, 1_000, Vec::new(alloc))?;
+    let status = run_words(alloc, words.as_slice(), source, &mut sink);
+    Ok(status == Status::Usage && sink.bytes() == USAGE.as_bytes())
+}
+
+/// Whether it does so and leaves a script to be read.
+fn reads_nothing(
+    alloc: Global,
+    first: &str,
+    second: &str,
+    script: &[u8],
+) -> Result<bool, ReadStop> {
+    let mut source = source_of(alloc, script, &[])?;
+    let told = tells_usage(alloc, first, second, &mut source)?;
+    let left = read_all(alloc, &mut source, 1_000)?;
+    Ok(told && left.as_slice() == script)
 }
 
 #[test]
 fn reads_nothing_for_other_words(rt: HostRuntime) -> Result<(), Fail> {
     let alloc = rt.alloc();
-    let whole = script(alloc, THREE, "1 2 3", SUM)?.into_bytes();
+    let whole = script(alloc, THREE, "1 2 3", SUM)?;
     for (first, second) in [("run", "x"), ("check", "--serial"), ("--serial", "run")] {
-        let words = vec![in alloc;
-            String::from_str(alloc, first)?,
-            String::from_str(alloc, second)?,
-        ]?;
-        let mut source = MemSource::new(whole.clone()?, Vec::new(alloc));
-        let mut sink = MemSink::new(alloc, 1_000, Vec::new(alloc))?;
-        let status = run_words(alloc, words.as_slice(), &mut source, &mut sink);
-        assert_eq!(rt; status, Status::Usage);
-        assert_eq!(rt; sink.bytes(), USAGE.as_bytes());
-        let left = read_all(alloc, &mut source, 1_000)?;
-        assert_eq!(rt; left.as_slice(), whole.as_slice());
+        let so = reads_nothing(alloc, first, second, whole.as_bytes())?;
+        assert!(rt; so, "{first} {second}");
     }
     Ok(())
 }
 
 #[test]
-fn numbers_of_statuses(rt: HostRuntime) -> Result<(), Fail> {
+fn numbers_of_statuses(rt: HostRuntime) {
     for (status, number) in [
         (Status::Done, 0),
         (Status::Usage, 2),
@@ -352,5 +470,4 @@ fn numbers_of_statuses(rt: HostRuntime) -> Result<(), Fail> {
     ] {
         assert_eq!(rt; status.number(), number);
     }
-    Ok(())
 }

@@ -26,6 +26,14 @@ fn plain(alloc: Global, coeffs: &[u64]) -> Result<Plain, AllocError> {
     Ok(Plain::from_vec(Vec::from_slice(alloc, coeffs)?))
 }
 
+// The line of a circuit with this value, behind another line.
+fn shows(alloc: Global, coeffs: &[u64], line: &str) -> Result<bool, AllocError> {
+    let mut text = Vec::from_slice(alloc, b"circuit a open\n")?;
+    circuit_line(&mut text, b"c", &plain(alloc, coeffs)?)?;
+    let want = format!(in alloc; "circuit a open\n{line}")?;
+    Ok(text.as_slice() == want.as_bytes())
+}
+
 #[test]
 fn values(rt: HostRuntime) -> Result<(), Fail> {
     let table: [(&[u64], &str); 6] = [
@@ -40,36 +48,57 @@ fn values(rt: HostRuntime) -> Result<(), Fail> {
         ),
     ];
     for (coeffs, line) in table {
-        let mut text = Vec::from_slice(rt.alloc(), b"circuit a open\n")?;
-        circuit_line(&mut text, b"c", &plain(rt.alloc(), coeffs)?)?;
-        let want = format!(in rt.alloc(); "circuit a open\n{line}")?;
-        assert_eq!(rt; text.as_slice(), want.as_bytes());
+        assert!(rt; shows(rt.alloc(), coeffs, line)?, "{line}");
     }
     Ok(())
+}
+
+// The ciphertext of both.
+fn output(alloc: Global) -> Result<Ciphertext, AllocError> {
+    let ring = Ring::new(alloc, &Params::frame(3, 2))?;
+    let c0 = of_signed(alloc, &ring, &FIRST)?;
+    let c1 = of_signed(alloc, &ring, &SECOND)?;
+    Ok(Ciphertext { c0, c1 })
 }
 
 #[test]
 fn digests(rt: HostRuntime) -> Result<(), Fail> {
-    let ring = Ring::new(rt.alloc(), &Params::frame(3, 2))?;
-    let output = Ciphertext {
-        c0: of_signed(rt.alloc(), &ring, &FIRST)?,
-        c1: of_signed(rt.alloc(), &ring, &SECOND)?,
-    };
+    let output = output(rt.alloc())?;
     let mut text = Vec::new(rt.alloc());
     output_line(&mut text, b"sum-1", &output)?;
     let line = b"output sum-1 13e42a726e2eb396a13de9465de5367fb868b58647f7d9abbf95e401736213f9\n";
     assert_eq!(rt; text.as_slice(), line.as_slice());
+    Ok(())
+}
 
-    let mut sums = Polys::new(rt.alloc());
-    let none = b"e3b0c44298fc1c149afbf4c8996fb92427ae41e4649b934ca495991b7852b855";
-    assert_eq!(rt; polys_digest(&sums).as_slice(), none.as_slice());
+// Three rows.
+fn rows(alloc: Global) -> Result<Polys, AllocError> {
+    let ring = Ring::new(alloc, &Params::frame(3, 2))?;
+    let mut sums = Polys::new(alloc);
     for row in [&SECOND, &FIRST, &SECOND] {
-        sums.push(of_signed(rt.alloc(), &ring, row)?)?;
+        sums.push(of_signed(alloc, &ring, row)?)?;
     }
+    Ok(sums)
+}
+
+#[test]
+fn digests_of_rows(rt: HostRuntime) -> Result<(), Fail> {
+    let none = b"e3b0c44298fc1c149afbf4c8996fb92427ae41e4649b934ca495991b7852b855";
+    assert_eq!(rt;
+        polys_digest(&Polys::new(rt.alloc())).as_slice(),
+        none.as_slice()
+    );
+    let sums = rows(rt.alloc())?;
     let three = b"1048d3b8ed6f750a533b84c53aa3ffd545de9c6d18642b153c55fdc170ae84ad";
     assert_eq!(rt; polys_digest(&sums).as_slice(), three.as_slice());
     Ok(())
 }
+
+const WITHOUT_VALUES: &str = "\
+circuit wide refused node 12 bound 340282366920938463463374607431768211455 limit 4294967295
+circuit sum-1 open
+circuit c refused output bound 70 limit 0
+";
 
 #[test]
 fn circuits_without_values(rt: HostRuntime) -> Result<(), Fail> {
@@ -87,13 +116,7 @@ fn circuits_without_values(rt: HostRuntime) -> Result<(), Fail> {
         limit: 0,
     };
     refused_line(&mut text, b"c", last)?;
-    let mut want = Vec::new(rt.alloc());
-    want.extend_from_slice(
-        b"circuit wide refused node 12 bound 340282366920938463463374607431768211455 limit 4294967295\n",
-    )?;
-    want.extend_from_slice(b"circuit sum-1 open\n")?;
-    want.extend_from_slice(b"circuit c refused output bound 70 limit 0\n")?;
-    assert_eq!(rt; text.as_slice(), want.as_slice());
+    assert_eq!(rt; text.as_slice(), WITHOUT_VALUES.as_bytes());
     Ok(())
 }
 
@@ -102,6 +125,19 @@ fn read_circuits(alloc: Global, params: &str, circuits: &str) -> Result<Script, 
     ensures { IfOk result (λ script. AreNamed (asked script)) }
 {
     read(alloc, script(alloc, params, "", circuits)?.as_str())
+}
+
+// What is told of a check of such a script.
+fn checked(alloc: Global, params: &str, circuits: &str) -> Result<Vec<u8>, ScriptStop> {
+    let script = read_circuits(alloc, params, circuits)?;
+    Ok(check_text(alloc, &script)?)
+}
+
+// A check of these circuits of three parties tells the limit and these lines.
+fn is_checked(alloc: Global, circuits: &str, lines: &str) -> Result<bool, ScriptStop> {
+    let text = checked(alloc, THREE, circuits)?;
+    let want = format!(in alloc; "limit 985162418487295\n{lines}")?;
+    Ok(text.as_slice() == want.as_bytes())
 }
 
 #[test]
@@ -122,10 +158,7 @@ fn checked_circuits(rt: HostRuntime) -> Result<(), Fail> {
         ("", ""),
     ];
     for (circuits, lines) in table {
-        let script = read_circuits(rt.alloc(), THREE, circuits)?;
-        let text = check_text(rt.alloc(), &script)?;
-        let want = format!(in rt.alloc(); "limit 985162418487295\n{lines}")?;
-        assert_eq!(rt; text.as_slice(), want.as_bytes());
+        assert!(rt; is_checked(rt.alloc(), circuits, lines)?, "{lines}");
     }
     Ok(())
 }
@@ -139,8 +172,7 @@ fn checked_refusals(rt: HostRuntime) -> Result<(), Fail> {
                 node 3 111605518906659599873 over\n\
                 circuit wide\nnode 0 40968\nnode 1 40968\nnode 2 2214518945281\n\
                 output 2214521042433\nplain 15 0 5\n";
-    let script = read_circuits(rt.alloc(), WIDE, circuits)?;
-    let text = check_text(rt.alloc(), &script)?;
+    let text = checked(rt.alloc(), WIDE, circuits)?;
     assert_eq!(rt; text.as_slice(), want.as_bytes());
     Ok(())
 }

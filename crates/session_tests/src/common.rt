@@ -1,8 +1,10 @@
-//! What several tests begin with: a circuit.
+//! What several tests begin with: a circuit, and a ciphertext.
 ghost use Rattle.std.specs.Prelude.{◌≡◌, length, All, IfOk, IfSome};
+ghost use Rattle.bfv_core.specs.Fits.{CipherFits};
 ghost use Rattle.session_spec.specs.Settings.{Keeps};
 
 use circuit_form::{Circuit, Node};
+use mod_ring::{Ciphertext, Ring, zero};
 use param_set::Params;
 use session_state::{Circuits, Offered};
 use std::alloc::{AllocError, Global};
@@ -30,4 +32,14 @@ pub fn one_sum(alloc: Global, params: &Params) -> Result<Option<Circuits>, Alloc
             Ok(Some(circuits))
         }
     }
+}
+
+/// A ciphertext of zeros.
+pub fn zeros(alloc: Global, ring: &Ring) -> Result<Ciphertext, AllocError>
+    ensures { IfOk result (λ ct. CipherFits ring.now.params.q ring.now.params.n ct) }
+{
+    Ok(Ciphertext {
+        c0: zero(alloc, ring)?,
+        c1: zero(alloc, ring)?,
+    })
 }

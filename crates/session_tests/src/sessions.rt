@@ -1,15 +1,15 @@
 //! Calls that a run never shows, at n = 8 and q = 31525197391593473: a session of three parties, any two of whom
 //! act, with one circuit that adds an input of party 1 and one of party 2. Nothing is told of seeds.
 ghost use Rattle.std.specs.Prelude.{◌≡◌, ◌^◌, ◌<◌, ◌≤◌, length, All, IfOk, IfSome};
-ghost use Rattle.bfv_core.specs.Fits.{CipherFits};
 ghost use Rattle.ring_spec.specs.Ring.{IsPoly};
 
-use crate::common::one_sum;
-use mod_ring::{Ciphertext, Polys, Ring, of_signed, zero};
+use crate::common::{one_sum, zeros};
+use mod_ring::{Poly, Polys, Ring, of_signed};
 use param_set::Params;
 use party_roll::NoRoll;
 use session_core::{Call, Reply, Session, Share, Stop};
 use std::alloc::{AllocError, Global};
+use std::process::Abort;
 use std::sync::Arc;
 use std::test::Fail;
 
@@ -52,11 +52,10 @@ fn outcome(said: &Result<Reply, Stop>) -> Told {
 }
 
 /// A session of so many calls, where its circuit can be made.
-fn open(alloc: Global, max_calls: u32) -> Result<Option<Session<NoRoll>>, Fail>
+fn open(alloc: Global, max_calls: u32) -> Result<Option<Session<NoRoll>>, AllocError>
     requires some { 1 ≤ max_calls }
     requires most { max_calls ≤ 100 }
     ensures degree { IfOk result (λ made. IfSome made (λ s. s.standing.params.n ≡ 8)) }
-    ensures modulus { IfOk result (λ made. IfSome made (λ s. s.standing.params.q ≡ 31525197391593473)) }
     ensures parties { IfOk result (λ made. IfSome made (λ s. s.standing.params.parties ≡ 3)) }
 {
     let params = Params::frame(3, 2);
@@ -68,39 +67,74 @@ fn open(alloc: Global, max_calls: u32) -> Result<Option<Session<NoRoll>>, Fail>
     Ok(Some(Session::new(alloc, roll, ring, circuits, max_calls)?))
 }
 
-/// A share of one row, or of two: each a constant.
-fn share(
+/// A constant.
+fn constant_of(alloc: Global, ring: &Ring, constant: i64) -> Result<Poly, AllocError>
+    requires { ring.now.params.n ≡ 8 }
+    ensures { IfOk result (λ f. IsPoly ring.now.params.q ring.now.params.n f) }
+{
+    of_signed(alloc, ring, &[constant, 0, 0, 0, 0, 0, 0, 0])
+}
+
+/// One row, or two: each a constant.
+fn constants(alloc: Global, ring: &Ring, rows: u32, constant: i64) -> Result<Polys, AllocError>
+    requires { ring.now.params.n ≡ 8 }
+    ensures fits { IfOk result (λ list. All (IsPoly ring.now.params.q ring.now.params.n) list) }
+    ensures few { IfOk result (λ list. length list ≤ 2) }
+{
+    let mut list = Polys::new(alloc);
+    list.push(constant_of(alloc, ring, constant)?)?;
+    if rows == 2 {
+        list.push(constant_of(alloc, ring, constant)?)?;
+    }
+    Ok(list)
+}
+
+/// Lets a party join, where it is one.
+fn join(alloc: Global, session: &mut Session<NoRoll>, p: u32) -> Result<Reply, Stop>
+    requires { session.old.standing.params.parties ≡ 3 }
+    ensures { session.new.standing.params ≡ session.old.standing.params }
+{
+    if p == 0 || p > 3 {
+        return Ok(Reply::Absent);
+    }
+    session.join(alloc, 0, p)
+}
+
+/// Delivers a share of one row, or of two: each a constant.
+fn deliver(
     alloc: Global,
-    ring: &Ring,
+    session: &mut Session<NoRoll>,
     id: u32,
     party: u32,
     rows: u32,
     constant: i64,
-) -> Result<Share, AllocError>
-    requires { ring.now.params.n ≡ 8 }
-    ensures fits { IfOk result (λ share. All (IsPoly ring.now.params.q ring.now.params.n) share.rows) }
-    ensures few { IfOk result (λ share. length share.rows ≤ 2) }
+) -> Result<Reply, Stop>
+    requires { session.old.standing.params.n ≡ 8 }
+    ensures { session.new.standing.params ≡ session.old.standing.params }
 {
-    let mut list = Polys::new(alloc);
-    list.push(of_signed(alloc, ring, &[constant, 0, 0, 0, 0, 0, 0, 0])?)?;
-    if rows == 2 {
-        list.push(of_signed(alloc, ring, &[constant, 0, 0, 0, 0, 0, 0, 0])?)?;
-    }
-    Ok(Share {
-        id,
-        party,
-        rows: list,
-    })
+    let rows = constants(alloc, session.ring(), rows, constant)?;
+    session.deliver(alloc, 0, &Share { id, party, rows })
 }
 
-/// A ciphertext of zeros.
-fn nothing(alloc: Global, ring: &Ring) -> Result<Ciphertext, AllocError>
-    ensures { IfOk result (λ ct. CipherFits ring.now.params.q ring.now.params.n ct) }
+/// Gives a ciphertext of zeros for an input.
+fn input(
+    alloc: Global,
+    session: &mut Session<NoRoll>,
+    circuit: u32,
+    input: u32,
+) -> Result<Reply, Stop>
+    ensures { session.new.standing.params ≡ session.old.standing.params }
 {
-    Ok(Ciphertext {
-        c0: zero(alloc, ring)?,
-        c1: zero(alloc, ring)?,
-    })
+    let ct = zeros(alloc, session.ring())?;
+    session.input(alloc, 0, circuit, input, ct)
+}
+
+/// Brings a ciphertext of zeros for the output of a circuit.
+fn finish(alloc: Global, session: &mut Session<NoRoll>, circuit: u32) -> Result<Reply, Stop>
+    ensures { session.new.standing.params ≡ session.old.standing.params }
+{
+    let ct = zeros(alloc, session.ring())?;
+    session.finish(alloc, 0, circuit, ct)
 }
 
 /// Makes a call of caller 0, with shares of a constant and ciphertexts of zeros.
@@ -111,35 +145,37 @@ fn make(
     constant: i64,
 ) -> Result<Reply, Stop>
     requires degree { session.old.standing.params.n ≡ 8 }
-    requires modulus { session.old.standing.params.q ≡ 31525197391593473 }
     requires parties { session.old.standing.params.parties ≡ 3 }
     ensures { session.new.standing.params ≡ session.old.standing.params }
 {
-    let ring = Ring::new(alloc, session.params())?;
     match call {
-        Call::Join { p } => {
-            if p == 0 || p > 3 {
-                return Ok(Reply::Absent);
-            }
-            session.join(alloc, 0, p)
-        }
-        Call::Deliver { id, p, rows } => {
-            let share = share(alloc, &ring, id, p, rows, constant)?;
-            session.deliver(alloc, 0, &share)
-        }
-        Call::Input { circuit, input } => {
-            let ct = nothing(alloc, &ring)?;
-            session.input(alloc, 0, circuit, input, ct)
-        }
+        Call::Join { p } => join(alloc, session, p),
+        Call::Deliver { id, p, rows } => deliver(alloc, session, id, p, rows, constant),
+        Call::Input {
+            circuit,
+            input: place,
+        } => input(alloc, session, circuit, place),
         Call::Take => Ok(session.take(alloc, 0)?.reply),
-        Call::Finish { circuit } => {
-            let ct = nothing(alloc, &ring)?;
-            session.finish(alloc, 0, circuit, ct)
-        }
+        Call::Finish { circuit } => finish(alloc, session, circuit),
         Call::Brief { id } => Ok(session.brief(0, id)?.reply),
         Call::Pending { p } => Ok(session.pending(alloc, 0, p)?.reply),
-        Call::Lose { .. } => Ok(Reply::Absent),
-        Call::GiveBack { .. } => Ok(Reply::Absent),
+        Call::Lose { .. } | Call::GiveBack { .. } => Ok(Reply::Absent),
+    }
+}
+
+/// Makes some calls, and compares what each comes to. With each stands the constant of its share.
+fn come_to<R: Abort>(
+    rt: &R,
+    alloc: Global,
+    session: &mut Session<NoRoll>,
+    calls: &[(Call, i64, Told)],
+)
+    requires degree { session.old.standing.params.n ≡ 8 }
+    requires parties { session.old.standing.params.parties ≡ 3 }
+{
+    'calls: for (call, constant, want) in calls {
+        let said = outcome(&make(alloc, session, *call, *constant));
+        assert_eq!(rt; said, *want, "{call:?}");
     }
 }
 
@@ -151,102 +187,95 @@ const fn of_first(p: u32, rows: u32) -> Call {
 #[test]
 fn refuses_what_is_not_wanted(rt: HostRuntime) -> Result<(), Fail> {
     let alloc = rt.alloc();
-    let opened = open(alloc, 40)?;
-    assert!(rt; opened.is_some());
-    if let Some(mut session) = opened {
-        let unissued = Call::Deliver {
-            id: 0,
-            p: 1,
-            rows: 1,
-        };
-        let first = Call::Input {
-            circuit: 0,
-            input: 0,
-        };
-        let third = Call::Input {
-            circuit: 0,
-            input: 2,
-        };
-        'calls: for (call, want) in [
-            (Call::Join { p: 1 }, Told::Joined),
-            (Call::Join { p: 2 }, Told::Joined),
-            (Call::Join { p: 3 }, Told::Joined),
-            (first, Told::NoKey),
-            (third, Told::NoInput),
-            (of_first(1, 2), Told::Shape(1, 2)),
-            (unissued, Told::Unknown(1)),
-            (of_first(3, 1), Told::Stranger),
-            (Call::Finish { circuit: 0 }, Told::NotTaken),
-            (Call::Take, Told::Nothing),
-            (of_first(1, 1), Told::Counted(1)),
-            (of_first(1, 1), Told::Repeat),
-        ] {
-            let said = make(alloc, &mut session, call, 1);
-            assert_eq!(rt; outcome(&said), want, "{call:?}");
-        }
-        assert_eq!(rt; session.log().len(), 12);
-    }
+    let Some(mut session) = open(alloc, 40)? else {
+        panic!(rt; "no session")
+    };
+    let unissued = Call::Deliver {
+        id: 0,
+        p: 1,
+        rows: 1,
+    };
+    let first = Call::Input {
+        circuit: 0,
+        input: 0,
+    };
+    let third = Call::Input {
+        circuit: 0,
+        input: 2,
+    };
+    let calls = [
+        (Call::Join { p: 1 }, 1, Told::Joined),
+        (Call::Join { p: 2 }, 1, Told::Joined),
+        (Call::Join { p: 3 }, 1, Told::Joined),
+        (first, 1, Told::NoKey),
+        (third, 1, Told::NoInput),
+        (of_first(1, 2), 1, Told::Shape(1, 2)),
+        (unissued, 1, Told::Unknown(1)),
+        (of_first(3, 1), 1, Told::Stranger),
+        (Call::Finish { circuit: 0 }, 1, Told::NotTaken),
+        (Call::Take, 1, Told::Nothing),
+        (of_first(1, 1), 1, Told::Counted(1)),
+        (of_first(1, 1), 1, Told::Repeat),
+    ];
+    come_to(&rt, alloc, &mut session, calls.as_slice());
+    assert_eq!(rt; session.log().len(), 12);
     Ok(())
 }
 
 #[test]
 fn ends_with_its_last_call(rt: HostRuntime) -> Result<(), Fail> {
     let alloc = rt.alloc();
-    let opened = open(alloc, 3)?;
-    assert!(rt; opened.is_some());
-    if let Some(mut session) = opened {
-        'calls: for (p, want) in [
-            (1, Told::Joined),
-            (2, Told::Joined),
-            (3, Told::Joined),
-            (1, Told::Spent),
-            (1, Told::Spent),
-        ] {
-            let said = make(alloc, &mut session, Call::Join { p }, 0);
-            assert_eq!(rt; outcome(&said), want, "{p}");
-        }
-        assert_eq!(rt; session.log().len(), 3);
-    }
+    let Some(mut session) = open(alloc, 3)? else {
+        panic!(rt; "no session")
+    };
+    let calls = [
+        (Call::Join { p: 1 }, 0, Told::Joined),
+        (Call::Join { p: 2 }, 0, Told::Joined),
+        (Call::Join { p: 3 }, 0, Told::Joined),
+        (Call::Join { p: 1 }, 0, Told::Spent),
+        (Call::Join { p: 1 }, 0, Told::Spent),
+    ];
+    come_to(&rt, alloc, &mut session, calls.as_slice());
+    assert_eq!(rt; session.log().len(), 3);
     Ok(())
+}
+
+/// Whether there is one sum, the constant 12.
+fn is_twelve(sums: Option<&Polys>) -> bool {
+    match sums {
+        Some(sums) => {
+            sums.len() == 1 && sums.at(0).coeffs() == [12, 0, 0, 0, 0, 0, 0, 0].as_slice()
+        }
+        None => false,
+    }
 }
 
 #[test]
 fn adds_up_what_was_delivered(rt: HostRuntime) -> Result<(), Fail> {
     let alloc = rt.alloc();
-    let opened = open(alloc, 9)?;
-    assert!(rt; opened.is_some());
-    if let Some(mut session) = opened {
-        // The constant -1 is 31525197391593472 modulo q.
-        'calls: for (call, constant, want) in [
-            (Call::Join { p: 1 }, 0, Told::Joined),
-            (Call::Join { p: 2 }, 0, Told::Joined),
-            (of_first(1, 1), -1, Told::Counted(1)),
-            (of_first(2, 1), 13, Told::Completed),
-        ] {
-            let said = make(alloc, &mut session, call, constant);
-            assert_eq!(rt; outcome(&said), want, "{call:?}");
-        }
-        let sums = session.sums(1);
-        assert!(rt; sums.is_some());
-        if let Some(sums) = sums {
-            assert_eq!(rt; sums.len(), 1);
-            if !sums.is_empty() {
-                assert_eq!(rt; sums.at(0).coeffs(), [12, 0, 0, 0, 0, 0, 0, 0].as_slice());
-            }
-        }
-    }
+    let Some(mut session) = open(alloc, 9)? else {
+        panic!(rt; "no session")
+    };
+    // The constant -1 is 31525197391593472 modulo q.
+    let calls = [
+        (Call::Join { p: 1 }, 0, Told::Joined),
+        (Call::Join { p: 2 }, 0, Told::Joined),
+        (of_first(1, 1), -1, Told::Counted(1)),
+        (of_first(2, 1), 13, Told::Completed),
+    ];
+    come_to(&rt, alloc, &mut session, calls.as_slice());
+    assert!(rt; is_twelve(session.sums(1)));
     Ok(())
 }
 
 #[test]
 fn answers_in_room_that_is_kept(rt: HostRuntime) -> Result<(), Fail> {
     let alloc = rt.alloc();
-    let opened = open(alloc, 9)?;
-    assert!(rt; opened.is_some());
-    if let Some(mut session) = opened {
-        session.reserve_log(1)?;
-        let said = make(alloc, &mut session, Call::Finish { circuit: 0 }, 0);
-        assert_eq!(rt; outcome(&said), Told::NotTaken);
-    }
+    let Some(mut session) = open(alloc, 9)? else {
+        panic!(rt; "no session")
+    };
+    session.reserve_log(1)?;
+    let said = outcome(&finish(alloc, &mut session, 0));
+    assert_eq!(rt; said, Told::NotTaken);
     Ok(())
 }

@@ -4,8 +4,8 @@ ghost use Rattle.session_rules.specs.Facts.{Kept};
 ghost use Rattle.session_rules.specs.Runs.{Grounded};
 ghost use Rattle.session_state.specs.Standings.{rules_of, state};
 
-use crate::common::one_sum;
-use mod_ring::{Ciphertext, Ring, zero};
+use crate::common::{one_sum, zeros};
+use mod_ring::Ring;
 use param_set::Params;
 use session_rules::{CircuitState, Reply};
 use session_state::Standing;
@@ -27,64 +27,92 @@ fn opened(alloc: Global) -> Result<Option<Standing>, AllocError>
     Ok(Some(Standing::new(alloc, ring, public, circuits)?))
 }
 
+/// Whether nothing of a circuit is there.
+fn has_nothing_of(standing: &Standing, circuit: u32) -> bool {
+    !standing.is_ready(circuit)
+        && standing.output(circuit).is_none()
+        && standing.answer(circuit).is_none()
+}
+
+/// Whether it has its parameters and its circuit, and nothing else.
+fn is_at_its_opening(standing: &Standing) -> bool {
+    standing.params().parties() == 3
+        && standing.ring().params().n() == 8
+        && standing.circuits().len() == 1
+        && standing.present().bits == 0
+        && standing.instances().is_empty()
+        && standing.circuit_states() == [CircuitState::Idle].as_slice()
+        && standing.sums(1).is_none()
+        && has_nothing_of(standing, 0)
+        && has_nothing_of(standing, 1)
+}
+
 #[test]
 fn opens_with_nothing(rt: HostRuntime) -> Result<(), Fail> {
-    let made = opened(rt.alloc())?;
-    assert!(rt; made.is_some());
-    if let Some(standing) = made {
-        assert_eq!(rt; standing.params().parties(), 3);
-        assert_eq!(rt; standing.ring().params().n(), 8);
-        assert_eq!(rt; standing.circuits().len(), 1);
-        assert_eq!(rt; standing.present().bits, 0);
-        assert!(rt; standing.instances().is_empty());
-        assert_eq!(rt; standing.circuit_states(), [CircuitState::Idle].as_slice());
-        assert!(rt; !standing.is_ready(0));
-        assert!(rt; !standing.is_ready(1));
-        assert!(rt; standing.sums(1).is_none());
-        assert!(rt; standing.output(0).is_none());
-        assert!(rt; standing.output(1).is_none());
-        assert!(rt; standing.answer(0).is_none());
-        assert!(rt; standing.answer(1).is_none());
-    }
+    let Some(standing) = opened(rt.alloc())? else {
+        panic!(rt; "no standing")
+    };
+    assert!(rt; is_at_its_opening(&standing));
     Ok(())
+}
+
+/// Whether party 1 is told that it is absent, and no key.
+fn lists_nothing(alloc: Global, standing: &Standing) -> Result<bool, AllocError> {
+    let listing = standing.pending(alloc, 1)?;
+    Ok(matches!(&listing.reply, Reply::Absent) && listing.key.is_none())
+}
+
+/// Whether nothing is told of instance 1, as none was issued.
+fn knows_no_instance(standing: &Standing) -> Result<bool, AllocError> {
+    let briefing = standing.brief(1)?;
+    Ok(matches!(&briefing.reply, Reply::Unknown { issued: 0 }) && briefing.brief.is_none())
 }
 
 #[test]
 fn tells_that_nothing_is_owed(rt: HostRuntime) -> Result<(), Fail> {
-    if let Some(standing) = opened(rt.alloc())? {
-        let listing = standing.pending(rt.alloc(), 1)?;
-        assert!(rt; matches!(listing.reply, Reply::Absent));
-        assert!(rt; listing.key.is_none());
-        let briefing = standing.brief(1)?;
-        assert!(rt; matches!(briefing.reply, Reply::Unknown { issued: 0 }));
-        assert!(rt; briefing.brief.is_none());
-    }
+    let Some(standing) = opened(rt.alloc())? else {
+        panic!(rt; "no standing")
+    };
+    assert!(rt; lists_nothing(rt.alloc(), &standing)?);
+    assert!(rt; knows_no_instance(&standing)?);
     Ok(())
+}
+
+/// Whether an input of zeros is refused for want of a key.
+fn wants_the_key(alloc: Global, standing: &mut Standing) -> Result<bool, AllocError>
+    requires kept { Kept (rules_of standing.old) (state standing.old) }
+    requires grounded { Grounded (rules_of standing.old) (state standing.old) }
+{
+    let ct = zeros(alloc, standing.ring())?;
+    let reply = standing.input(alloc, 0, 0, ct)?;
+    Ok(matches!(&reply, Reply::NoKey))
 }
 
 #[test]
 fn takes_no_input_before_the_key(rt: HostRuntime) -> Result<(), Fail> {
-    let alloc = rt.alloc();
-    if let Some(mut standing) = opened(alloc)? {
-        let ct = Ciphertext {
-            c0: zero(alloc, standing.ring())?,
-            c1: zero(alloc, standing.ring())?,
-        };
-        let reply = standing.input(alloc, 0, 0, ct)?;
-        assert!(rt; matches!(reply, Reply::NoKey));
-        assert_eq!(rt; standing.circuit_states(), [CircuitState::Idle].as_slice());
-    }
+    let Some(mut standing) = opened(rt.alloc())? else {
+        panic!(rt; "no standing")
+    };
+    assert!(rt; wants_the_key(rt.alloc(), &mut standing)?);
+    assert_eq!(rt; standing.circuit_states(), [CircuitState::Idle].as_slice());
     Ok(())
+}
+
+/// Whether there is no job.
+fn has_no_job(alloc: Global, standing: &mut Standing) -> Result<bool, AllocError>
+    requires kept { Kept (rules_of standing.old) (state standing.old) }
+    requires grounded { Grounded (rules_of standing.old) (state standing.old) }
+{
+    let taking = standing.take(alloc, 5)?;
+    Ok(matches!(&taking.reply, Reply::Nothing) && taking.job.is_none())
 }
 
 #[test]
 fn gives_no_job_before_the_inputs(rt: HostRuntime) -> Result<(), Fail> {
-    let alloc = rt.alloc();
-    if let Some(mut standing) = opened(alloc)? {
-        let taking = standing.take(alloc, 5)?;
-        assert!(rt; matches!(taking.reply, Reply::Nothing));
-        assert!(rt; taking.job.is_none());
-        assert_eq!(rt; standing.circuit_states(), [CircuitState::Idle].as_slice());
-    }
+    let Some(mut standing) = opened(rt.alloc())? else {
+        panic!(rt; "no standing")
+    };
+    assert!(rt; has_no_job(rt.alloc(), &mut standing)?);
+    assert_eq!(rt; standing.circuit_states(), [CircuitState::Idle].as_slice());
     Ok(())
 }

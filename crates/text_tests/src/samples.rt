@@ -28,7 +28,21 @@ pub fn script(
     present: &str,
     rest: &str,
 ) -> Result<String, AllocError> {
-    format!(in alloc; "helium 1\n{params}\n{SEED}\npresent {present}\n{rest}done\n")
+    let mut text = String::new(alloc);
+    for piece in [
+        "helium 1\n",
+        params,
+        "\n",
+        SEED,
+        "\npresent ",
+        present,
+        "\n",
+        rest,
+        "done\n",
+    ] {
+        text.push_str(piece)?;
+    }
+    Ok(text)
 }
 
 /// What is read from a text, which is too long for the tests above 1 MiB.

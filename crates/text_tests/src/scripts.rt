@@ -1,7 +1,7 @@
 //! Whole scripts, and lines that are refused for each reason.
 use crate::samples::{SEED, THREE, read};
 use param_set::Field;
-use session_script::{Line, Reason, Script, ScriptStop};
+use session_script::{Lane, Line, NamedCircuit, Reason, Script, ScriptStop};
 use std::alloc::{AllocError, Global};
 use std::test::Fail;
 
@@ -18,16 +18,20 @@ const BASE: [&str; 10] = [
     "done",
 ];
 
+// Puts a line behind a script.
+fn push_line(script: &mut String, text: &str) -> Result<(), AllocError> {
+    script.push_str(text)?;
+    script.push('\n')?;
+    Ok(())
+}
+
 // The base script with `text` in place of a line, or behind all lines.
 fn changed(alloc: Global, line: usize, text: &str) -> Result<String, AllocError> {
     let mut script = String::new(alloc);
     for k in 0..BASE.len() {
-        script.push_str(if k + 1 == line { text } else { BASE[k] })?;
-        script.push('\n')?;
+        push_line(&mut script, if k + 1 == line { text } else { BASE[k] })?;
     }
-    if line > BASE.len() {
-        script.push_str(text)?;
-    }
+    script.push_str(if line > BASE.len() { text } else { "" })?;
     Ok(script)
 }
 
@@ -91,18 +95,29 @@ const REFUSED: [(usize, &str, u32, Reason); 44] = [
 
 // Whether the text is refused in this line and for this reason.
 fn is_refused(alloc: Global, text: &str, at: u32, wanted: Reason) -> bool {
-    match read(alloc, text) {
-        Err(ScriptStop::Refused { line, reason }) => line == at && reason == wanted,
+    match read(alloc, text).err() {
+        Some(ScriptStop::Refused { line, reason }) => line == at && reason == wanted,
         _ => false,
     }
+}
+
+// Whether the changed base is.
+fn is_refused_with(
+    alloc: Global,
+    (line, text): (usize, &str),
+    at: u32,
+    wanted: Reason,
+) -> Result<bool, AllocError> {
+    let script = changed(alloc, line, text)?;
+    Ok(is_refused(alloc, &script, at, wanted))
 }
 
 #[test]
 fn refuses_by_each_reason(rt: HostRuntime) -> Result<(), Fail> {
     let alloc = rt.alloc();
     for (line, text, at, wanted) in REFUSED {
-        let script = changed(alloc, line, text)?;
-        assert!(rt; is_refused(alloc, &script, at, wanted), "{line}: {text}");
+        let so = is_refused_with(alloc, (line, text), at, wanted)?;
+        assert!(rt; so, "{line}: {text}");
     }
     assert!(rt; is_refused(alloc, "", 1, Reason::End));
     Ok(())
@@ -124,6 +139,31 @@ fn repeated(
     changed(alloc, line, &lines)
 }
 
+// Whether the base with a text so often before a line is read.
+fn is_full(
+    alloc: Global,
+    line: usize,
+    last: &str,
+    text: &str,
+    most: u32,
+) -> Result<bool, AllocError> {
+    let full = repeated(alloc, line, last, text, most)?;
+    Ok(read(alloc, &full).is_ok())
+}
+
+// Whether the base with a text so often before a line has too many.
+fn is_over(
+    alloc: Global,
+    line: usize,
+    last: &str,
+    text: &str,
+    too_many: u32,
+    at: u32,
+) -> Result<bool, AllocError> {
+    let over = repeated(alloc, line, last, text, too_many)?;
+    Ok(is_refused(alloc, &over, at, Reason::Limit))
+}
+
 #[test]
 fn refuses_one_too_many(rt: HostRuntime) -> Result<(), Fail> {
     let alloc = rt.alloc();
@@ -133,34 +173,52 @@ fn refuses_one_too_many(rt: HostRuntime) -> Result<(), Fail> {
         (10, "done", "lane\nend\n", 8, 9, 26),
     ];
     for (line, last, text, most, too_many, at) in rows {
-        let full = repeated(alloc, line, last, text, most)?;
-        assert!(rt; matches!(&read(alloc, &full), Ok(_)), "{text}");
-        let over = repeated(alloc, line, last, text, too_many)?;
-        assert!(rt; is_refused(alloc, &over, at, Reason::Limit), "{text}");
+        assert!(rt; is_full(alloc, line, last, text, most)?, "{text}");
+        let over = is_over(alloc, line, last, text, too_many, at)?;
+        assert!(rt; over, "{text}");
     }
     Ok(())
+}
+
+// Whether a circuit has these values.
+fn has_values(named: &NamedCircuit, values: &[[u64; 8]]) -> bool {
+    for (place, value) in values.iter().enumerate() {
+        if place >= named.values().len() || named.values().at(place).coeffs() != value.as_slice() {
+            return false;
+        }
+    }
+    named.values().len() == values.len()
+}
+
+// Whether a script is the base.
+fn is_the_base(script: &Script) -> bool {
+    let values = [[3, 0, 1, 0, 0, 0, 0, 0], [5, 0, 0, 0, 0, 0, 0, 0]];
+    match script.circuits.as_slice() {
+        [named] => {
+            script.params.parties() == 3
+                && script.params.psi() == 1_791_537_114_801_093
+                && script.lanes.len() == 0
+                && named.name() == b"c".as_slice()
+                && named.circuit().owner(0) == Some(1)
+                && named.circuit().owner(1) == Some(2)
+                && has_values(named, values.as_slice())
+        }
+        _ => false,
+    }
+}
+
+// Whether the base is read from a text.
+fn reads(alloc: Global, text: &str) -> Result<bool, ScriptStop> {
+    let script = read(alloc, text)?;
+    Ok(is_the_base(&script))
 }
 
 // The base script asks for one circuit, and its last line may lack its line feed.
 #[test]
 fn reads_the_base(rt: HostRuntime) -> Result<(), Fail> {
-    let alloc = rt.alloc();
-    let text = changed(alloc, 11, "")?;
-    let cut = text.trim_end_matches('\n');
-    for text in [text.as_str(), cut] {
-        let script = read(alloc, text)?;
-        assert_eq!(rt; script.params.parties(), 3);
-        assert_eq!(rt; script.params.psi(), 1_791_537_114_801_093);
-        assert_eq!(rt; script.lanes.len(), 0);
-        assert_eq!(rt; script.circuits.len(), 1);
-        let named = &script.circuits.as_slice()[0];
-        assert_eq!(rt; named.name(), b"c".as_slice());
-        assert_eq!(rt; named.circuit().owner(0), Some(1));
-        assert_eq!(rt; named.circuit().owner(1), Some(2));
-        assert_eq!(rt; named.values().len(), 2);
-        let [first, second] = [[3, 0, 1, 0, 0, 0, 0, 0], [5, 0, 0, 0, 0, 0, 0, 0]];
-        assert_eq!(rt; named.values().at(0).coeffs(), first.as_slice());
-        assert_eq!(rt; named.values().at(1).coeffs(), second.as_slice());
+    let text = changed(rt.alloc(), 11, "")?;
+    for text in [text.as_str(), text.trim_end_matches('\n')] {
+        assert!(rt; reads(rt.alloc(), text)?, "{text}");
     }
     Ok(())
 }
@@ -196,37 +254,28 @@ workers 2 3
 done
 # nothing else";
 
-// The script of every statement.
-fn whole(alloc: Global) -> Result<Script, ScriptStop> {
-    read(alloc, WHOLE)
+// Whether a circuit has this name, so many nodes, and one value, which is this.
+fn is_circuit(named: &NamedCircuit, name: &[u8], nodes: u32, value: [u64; 8]) -> bool {
+    named.name() == name && named.circuit().len() == nodes && has_values(named, [value].as_slice())
 }
 
-#[test]
-fn reads_every_statement(rt: HostRuntime) -> Result<(), Fail> {
-    let script = whole(rt.alloc())?;
-    assert_eq!(rt; script.version, 1);
-    assert_eq!(rt; script.params.threshold(), 2);
-    assert_eq!(rt; script.master[31], 255);
-    assert_eq!(rt; script.present.as_slice(), [1, 3].as_slice());
-    assert_eq!(rt; script.circuits.len(), 2);
-    let names = [b"a_1".as_slice(), b"b".as_slice()];
-    let values = [[3, 0, 1, 0, 0, 0, 0, 0], [15, 0, 0, 0, 0, 0, 0, 0]];
-    let nodes = [7, 1];
-    let mut k = 0usize;
-    for named in script.circuits.as_slice() {
-        assert!(rt; k < 2);
-        assert_eq!(rt; named.name(), names[k]);
-        assert_eq!(rt; named.circuit().len(), nodes[k]);
-        assert_eq!(rt; named.values().len(), 1);
-        assert_eq!(rt; named.values().at(0).coeffs(), values[k].as_slice());
-        k += 1;
+// Whether this is the script of every statement, but for its lanes.
+fn has_statements(script: &Script) -> bool {
+    match script.circuits.as_slice() {
+        [first, second] => {
+            script.version == 1
+                && script.params.threshold() == 2
+                && script.master[31] == 255
+                && script.present.as_slice() == [1, 3].as_slice()
+                && is_circuit(first, b"a_1", 7, [3, 0, 1, 0, 0, 0, 0, 0])
+                && is_circuit(second, b"b", 1, [15, 0, 0, 0, 0, 0, 0, 0])
+        }
+        _ => false,
     }
-    Ok(())
 }
 
-#[test]
-fn reads_lanes_and_workers(rt: HostRuntime) -> Result<(), Fail> {
-    let script = whole(rt.alloc())?;
+// Whether these are the lanes of the script of every statement.
+fn are_the_lanes(lanes: &[Lane]) -> bool {
     let written = [
         Line::Join { p: 2 },
         Line::Lose { p: 1 },
@@ -240,29 +289,64 @@ fn reads_lanes_and_workers(rt: HostRuntime) -> Result<(), Fail> {
         Line::Quit,
     ];
     let work = [Line::Work, Line::Work, Line::Work];
-    let lanes = script.lanes.as_slice();
-    assert_eq!(rt; lanes.len(), 4);
-    assert_eq!(rt; lanes[0].as_slice(), written.as_slice());
-    assert_eq!(rt; lanes[1].as_slice().len(), 0);
-    assert_eq!(rt; lanes[2].as_slice(), work.as_slice());
-    assert_eq!(rt; lanes[3].as_slice(), work.as_slice());
+    match lanes {
+        [first, empty, third, fourth] => {
+            first.as_slice() == written.as_slice()
+                && empty.as_slice().is_empty()
+                && third.as_slice() == work.as_slice()
+                && fourth.as_slice() == work.as_slice()
+        }
+        _ => false,
+    }
+}
+
+// Whether the script of every statement is read, but for its lanes, and whether these are.
+fn reads_whole(alloc: Global) -> Result<(bool, bool), ScriptStop> {
+    let script = read(alloc, WHOLE)?;
+    Ok((
+        has_statements(&script),
+        are_the_lanes(script.lanes.as_slice()),
+    ))
+}
+
+#[test]
+fn reads_every_statement(rt: HostRuntime) -> Result<(), Fail> {
+    let (statements, _) = reads_whole(rt.alloc())?;
+    assert!(rt; statements);
     Ok(())
 }
 
 #[test]
+fn reads_lanes_and_workers(rt: HostRuntime) -> Result<(), Fail> {
+    let (_, lanes) = reads_whole(rt.alloc())?;
+    assert!(rt; lanes);
+    Ok(())
+}
+
+// As many of a character as a script may have bytes.
+fn filled(alloc: Global, filler: char) -> Result<String, AllocError> {
+    let mut long = String::new(alloc);
+    for _ in 0..1_048_576u32 {
+        long.push(filler)?;
+    }
+    Ok(long)
+}
+
+// Whether they are refused.
+fn is_long(alloc: Global, filler: char, at: u32, wanted: Reason) -> Result<bool, AllocError> {
+    let long = filled(alloc, filler)?;
+    Ok(is_refused(alloc, &long, at, wanted))
+}
+
+#[test]
 fn refuses_long_texts(rt: HostRuntime) -> Result<(), Fail> {
-    let alloc = rt.alloc();
     let rows = [
         ('\n', 1_048_577, Reason::End),
         (' ', 2, Reason::End),
         ('0', 1, Reason::Word),
     ];
     for (filler, at, wanted) in rows {
-        let mut long = String::new(alloc);
-        for _ in 0..1_048_576u32 {
-            long.push(filler)?;
-        }
-        assert!(rt; is_refused(alloc, &long, at, wanted), "{filler}");
+        assert!(rt; is_long(rt.alloc(), filler, at, wanted)?, "{filler}");
     }
     Ok(())
 }
