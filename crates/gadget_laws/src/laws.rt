@@ -1,0 +1,29 @@
+//! What follows from the definitions, whatever is called: each function states a law, and does nothing.
+ghost use Rattle.gadget_laws.specs.Digits.{DigitsAreSmall, DigitsMakeUp};
+ghost use Rattle.gadget_laws.specs.Switching.{DigitsArePolynomials, PolynomialsAreSmall, PolynomialsMakeUp};
+ghost use Rattle.gadget_laws.specs.Switching.{RotationsAddLittle, RotationsCarry, SwitchesAddLittle};
+
+/// The digits of a residue times their weights sum to it, or to its centre where they are balanced, and none is
+/// greater than W.
+pub fn digits()
+    ensures sum { DigitsMakeUp }
+    ensures small { DigitsAreSmall }
+{}
+
+/// The same of a polynomial: its polynomials of digits are of the ring, small, and make it up.
+pub fn polynomials()
+    ensures fit { DigitsArePolynomials }
+    ensures small { PolynomialsAreSmall }
+    ensures sum { PolynomialsMakeUp }
+{}
+
+/// A switch by a key for z has the phase f * z, but for l * n * W times the noise of the key's rows.
+pub fn switches()
+    ensures noise { SwitchesAddLittle }
+{}
+
+/// A rotation has the phase with X^g for X, but for as much, and carries the plaintext with X^g for X.
+pub fn rotations()
+    ensures noise { RotationsAddLittle }
+    ensures carries { RotationsCarry }
+{}
