@@ -1,0 +1,6 @@
+pub mod Totals
+pub mod Rows
+pub mod Noises
+pub mod RotationKeys
+pub mod RelinKeys
+mod Instances
