@@ -22,7 +22,7 @@ pub fn switches()
     ensures noise { SwitchesAddLittle }
 {}
 
-/// A rotation has the phase with X^g for X, but for as much, and carries the plaintext with X^g for X.
+/// A rotation has the phase with X^e for X, but for as much, and carries the plaintext with X^e for X.
 pub fn rotations()
     ensures noise { RotationsAddLittle }
     ensures carries { RotationsCarry }
