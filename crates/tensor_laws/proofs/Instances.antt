@@ -1,0 +1,67 @@
+-- Worked instances: roundings, tensors and relinearisation at small numbers, by computation.
+use Rattle.std.proofs.Common.{◌≡◌, List, [], ◌∷◌, true, false, refl}
+use Rattle.std.specs.Prelude.{pos, negsuc}
+use Rattle.ring_spec.specs.Ring.{total, residue, residues, centre, wrapped, ring_sum, ring_product}
+use Rattle.ring_spec.specs.Pairs.{Cipher}
+use Rattle.bfv_spec.specs.Scheme.{cipher_sum}
+use Rattle.gadget_spec.specs.Digits.{base_digit, lowest, divided, rest, balanced_digit, digit, digit_poly, digit_polys}
+use Rattle.gadget_spec.specs.Switching.{KeyRow, combined, key_switch}
+use Rattle.tensor_spec.specs.Rounding.{int_product, nearest}
+use Rattle.tensor_spec.specs.Tensors.{Triple, rescaled, tensor, triple_phase, relinearisation}
+
+-- ---- rounding, with t = 16 and q = 31525197391593473: at the half of q/t and past it, of either sign
+
+below_half : nearest 16 31525197391593473 (pos 985162418487296) ≡ pos 0
+unfolding nearest
+below_half = refl
+
+above_half : nearest 16 31525197391593473 (pos 985162418487297) ≡ pos 1
+unfolding nearest
+above_half = refl
+
+negative : (nearest 16 31525197391593473 (negsuc 985162418487295) ≡ pos 0) × (nearest 16 31525197391593473 (negsuc 985162418487296) ≡ negsuc 0)
+unfolding nearest
+negative = (refl, refl)
+
+all_of_q : nearest 16 31525197391593473 (pos 31525197391593473) ≡ pos 16
+unfolding nearest
+all_of_q = refl
+
+-- X times X^7 is -1
+x_times_x7 : int_product 8 (pos 0 ∷ pos 1 ∷ pos 0 ∷ pos 0 ∷ pos 0 ∷ pos 0 ∷ pos 0 ∷ pos 0 ∷ []) (pos 0 ∷ pos 0 ∷ pos 0 ∷ pos 0 ∷ pos 0 ∷ pos 0 ∷ pos 0 ∷ pos 1 ∷ [])
+    ≡ negsuc 0 ∷ pos 0 ∷ pos 0 ∷ pos 0 ∷ pos 0 ∷ pos 0 ∷ pos 0 ∷ pos 0 ∷ []
+unfolding int_product wrapped total
+x_times_x7 = refl
+
+-- ---- modulo 97 with two coefficients and plaintexts modulo 4
+
+abbrev one : Cipher
+one = record { c0 = 60 ∷ 55 ∷ []; c1 = 11 ∷ 2 ∷ [] }
+
+abbrev other : Cipher
+other = record { c0 = 5 ∷ 96 ∷ []; c1 = 96 ∷ 50 ∷ [] }
+
+-- before they are rescaled its parts are -227 - 173 X, -1880 + 1780 X and 83 - 519 X
+abbrev product : Triple
+product = record { o0 = 88 ∷ 90 ∷ []; o1 = 19 ∷ 73 ∷ []; o2 = 3 ∷ 76 ∷ [] }
+
+product_is : tensor 97 2 4 one other ≡ product
+unfolding tensor rescaled nearest residues residue centre wrapped total
+product_is = refl
+
+-- under 1 - X, whose square is -2X
+phase_is : triple_phase 97 2 (1 ∷ 96 ∷ []) product ≡ 41 ∷ 41 ∷ []
+unfolding triple_phase ring_sum ring_product residues residue wrapped total
+phase_is = refl
+
+-- a key for the square, with three rows of three bits
+abbrev key : List KeyRow
+key = record { b = 88 ∷ 21 ∷ []; a = 14 ∷ 90 ∷ [] } ∷ record { b = 11 ∷ 63 ∷ []; a = 37 ∷ 54 ∷ [] } ∷ record { b = 71 ∷ 82 ∷ []; a = 67 ∷ 54 ∷ [] } ∷ []
+
+relinearised : relinearisation 97 2 (record { bits = 3; rows = 3; balanced = false }) key product ≡ record { c0 = 26 ∷ 5 ∷ []; c1 = 78 ∷ 18 ∷ [] }
+unfolding relinearisation key_switch combined digit_polys digit_poly digit base_digit cipher_sum ring_sum ring_product residues residue wrapped total
+relinearised = refl
+
+relinearised_balanced : relinearisation 97 2 (record { bits = 3; rows = 3; balanced = true }) key product ≡ record { c0 = 90 ∷ 93 ∷ []; c1 = 50 ∷ 80 ∷ [] }
+unfolding relinearisation key_switch combined digit_polys digit_poly digit balanced_digit rest lowest divided centre cipher_sum ring_sum ring_product residues residue wrapped total
+relinearised_balanced = refl
