@@ -1,8 +1,8 @@
 -- The tensor of two ciphertexts, and relinearisation. After Fan and Vercauteren 2012, section 4.
-use Rattle.std.specs.Prelude.{ℕ, List, ℤ}
-use Rattle.ring_spec.specs.Ring.{wrapped, plus, signed, residues, centres, IsPoly, ring_sum, ring_product}
+use Rattle.std.specs.Prelude.{ℕ, ◌≤◌, List, ℤ}
+use Rattle.ring_spec.specs.Ring.{wrapped, plus, signed, residues, centres, IsPoly, ring_sum, ring_difference, ring_multiple, ring_product, size}
 use Rattle.ring_spec.specs.Pairs.{Cipher}
-use Rattle.bfv_spec.specs.Scheme.{cipher_sum}
+use Rattle.bfv_spec.specs.Scheme.{delta, cipher_sum}
 use Rattle.gadget_spec.specs.Digits.{Gadget}
 use Rattle.gadget_spec.specs.Switching.{KeyRow, key_switch}
 use Rattle.tensor_spec.specs.Rounding.{nearest}
@@ -41,6 +41,10 @@ pub record IsTriple (q n : ℕ) (x : Triple) : Type 0 where
 -- the phase of a triple under the secret s: o0 + o1 * s + o2 * s^2
 unfoldable pub triple_phase : ℕ → ℕ → List ℕ → Triple → List ℕ
 triple_phase q n s x = ring_sum q n (ring_sum q n x.o0 (ring_product q n x.o1 s)) (ring_product q n x.o2 (ring_product q n s s))
+
+-- a triple carries m within v under s where its phase less D * m has size at most v
+pub record TripleCarries (q n t : ℕ) (s : List ℕ) (v : ℕ) (x : Triple) (m : List ℕ) : Type 0 where
+  pub noise : size q (ring_difference q n (triple_phase q n s x) (ring_multiple q n (delta q t) m)) ≤ v
 
 -- a triple as a ciphertext, by a key for the square of the secret: (o0, o1), and o2 switched
 unfoldable pub relinearisation : ℕ → ℕ → Gadget → List KeyRow → Triple → Cipher
