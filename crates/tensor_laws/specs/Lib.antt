@@ -1,2 +1,3 @@
 pub mod Rounding
 pub mod Relinearising
+pub mod Products

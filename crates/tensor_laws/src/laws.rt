@@ -1,4 +1,5 @@
 //! What follows from the definitions, whatever is called: each function states a law, and does nothing.
+ghost use Rattle.tensor_laws.specs.Products.{ProductsCarry, TensorsCarry};
 ghost use Rattle.tensor_laws.specs.Relinearising.{RelinearisationsAddLittle, TensorsFit};
 ghost use Rattle.tensor_laws.specs.Rounding.{NearestIsNear, NearestIsNearer, NearestIsTheOnly, ProductsAreWrapped};
 
@@ -18,4 +19,11 @@ pub fn products()
 /// Relinearisation keeps the phase of a triple, but for l * n * W times the noise of the key's rows.
 pub fn relinearisations()
     ensures noise { RelinearisationsAddLittle }
+{}
+
+/// The tensor of two ciphertexts carries the product of their plaintexts within a bound that is said in numbers, and so
+/// does what it is relinearised to, with what the switch adds.
+pub fn noise()
+    ensures tensors { TensorsCarry }
+    ensures products { ProductsCarry }
 {}
