@@ -5,6 +5,7 @@ use Rattle.std.specs.List.{range_with_len}
 use Rattle.ring_spec.specs.Ring.{total, residue, residues, centre, wrapped, turned, size, ring_sum, ring_difference, ring_multiple, ring_product, ring_turned}
 use Rattle.ring_spec.specs.Pairs.{Cipher}
 use Rattle.bfv_spec.specs.Scheme.{cipher_sum}
+use Rattle.gadget_laws.specs.Switching.{switch_noise}
 use Rattle.gadget_spec.specs.Digits.{Gadget, Serves, weight, widest, base_digit, lowest, divided, rest, balanced_digit, digit, digit_poly, digit_polys}
 use Rattle.gadget_spec.specs.Switching.{KeyRow, IsSwitchKey, row_at, row_phase, combined, key_switch, rotation}
 
@@ -125,3 +126,9 @@ rotated = refl
 rotated_balanced : rotation 97 2 three_balanced key 3 cipher ≡ record { c0 = 16 ∷ 48 ∷ []; c1 = 77 ∷ 79 ∷ [] }
 unfolding rotation key_switch combined digit_polys digit_poly digit balanced_digit rest lowest divided centre cipher_sum ring_sum ring_product ring_turned residues residue turned wrapped total
 rotated_balanced = refl
+
+-- ---- what a switch adds, in numbers, with n = 8 and rows whose noise is within 2
+
+noises : (switch_noise 8 plain 2 ≡ 28560) × (switch_noise 8 balanced 2 ≡ 14336)
+unfolding widest
+noises = (refl, refl)
