@@ -6,5 +6,6 @@ pub mod Phases
 pub mod Combined
 pub mod Reduced
 pub mod Switches
+pub mod SwitchTotals
 pub mod Rotations
 mod Instances

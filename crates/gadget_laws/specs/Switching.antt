@@ -6,7 +6,7 @@ use Rattle.ring_spec.specs.Pairs.{Cipher}
 use Rattle.ring_laws.specs.Aggregate.{ring_total}
 use Rattle.bfv_spec.specs.Scheme.{remainder, phase, Carries}
 use Rattle.gadget_spec.specs.Digits.{Gadget, Serves, weight, widest, digit_poly}
-use Rattle.gadget_spec.specs.Switching.{KeyRow, IsSwitchKey, key_switch, rotation}
+use Rattle.gadget_spec.specs.Switching.{KeyRow, IsSwitchKey, key_switch, rotation, IsCipher}
 
 -- what a switch adds where its key's rows have noise within v
 abbrev pub switch_noise : ℕ → Gadget → ℕ → ℕ
@@ -42,6 +42,13 @@ SwitchesAddLittle =
     (q n v : ℕ) (g : Gadget) (s z : List ℕ) (key : List KeyRow) (f : List ℕ)
     → 0 < q → Serves q g → IsPoly q n f → IsSwitchKey q n g s z v key
     → size q (ring_difference q n (phase q n s (key_switch q n g key f)) (ring_product q n f z)) ≤ switch_noise n g v
+
+-- what is switched, or rotated, is a ciphertext of the ring
+abbrev pub SwitchesFit : Type 0
+SwitchesFit = (q n : ℕ) (g : Gadget) (key : List KeyRow) (f : List ℕ) → 0 < q → IsCipher q n (key_switch q n g key f)
+
+abbrev pub RotationsFit : Type 0
+RotationsFit = (q n e : ℕ) (g : Gadget) (key : List KeyRow) (c : Cipher) → 0 < q → IsCipher q n (rotation q n g key e c)
 
 -- ---- rotations
 
