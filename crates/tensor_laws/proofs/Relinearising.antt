@@ -9,11 +9,11 @@ use Rattle.gadget_spec.specs.Switching.{KeyRow, IsSwitchKey, key_switch}
 use Rattle.tensor_spec.specs.Tensors.{Triple, rescaled, lifted, scaled, tensor, triple_phase, relinearisation}
 use Rattle.ring_laws.specs.Congruence.{Agree}
 use Rattle.gadget_laws.specs.Switching.{switch_noise}
-use Rattle.tensor_laws.specs.Relinearising.{TensorsFit, RelinearisationsAddLittle}
+use Rattle.tensor_laws.specs.Relinearising.{TensorsFit, RelinearisationsFit, RelinearisationsAddLittle}
 use Rattle.ring_laws.proofs.Integers.{sums}
 use Rattle.ring_laws.proofs.Products.{wrapped_sum_left}
 use Rattle.ring_laws.proofs.Congruences.{agree_equal, agree_self, agree_chain, agree_back, agree_sum, agree_product}
-use Rattle.ring_laws.proofs.Residues.{residues_poly, difference_poly}
+use Rattle.ring_laws.proofs.Residues.{residues_poly, sum_poly, difference_poly}
 use Rattle.ring_laws.proofs.Rings.{sum_agrees, difference_agrees, product_agrees}
 use Rattle.ring_laws.proofs.Sizes.{size_within}
 use Rattle.gadget_laws.proofs.Phases.{opened, phase_agrees}
@@ -25,6 +25,13 @@ tensors_fit q n t c d h = record {
   o0 = residues_poly q n (scaled q t (wrapped n (lifted q c.c0) (lifted q d.c0))) h;
   o1 = residues_poly q n (scaled q t (plus (wrapped n (lifted q c.c0) (lifted q d.c1)) (wrapped n (lifted q c.c1) (lifted q d.c0)))) h;
   o2 = residues_poly q n (scaled q t (wrapped n (lifted q c.c1) (lifted q d.c1))) h;
+}
+
+pub relinearisations_fit : RelinearisationsFit
+unfolding relinearisation cipher_sum
+relinearisations_fit q n g key x h = record {
+  c0 = sum_poly q n x.o0 (key_switch q n g key x.o2).c0 h;
+  c1 = sum_poly q n x.o1 (key_switch q n g key x.o2).c1 h;
 }
 
 -- the coefficients of the phase of a triple

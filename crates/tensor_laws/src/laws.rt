@@ -1,6 +1,6 @@
 //! What follows from the definitions, whatever is called: each function states a law, and does nothing.
 ghost use Rattle.tensor_laws.specs.Products.{ProductsCarry, TensorsCarry};
-ghost use Rattle.tensor_laws.specs.Relinearising.{RelinearisationsAddLittle, TensorsFit};
+ghost use Rattle.tensor_laws.specs.Relinearising.{RelinearisationsAddLittle, RelinearisationsFit, TensorsFit};
 ghost use Rattle.tensor_laws.specs.Rounding.{NearestIsNear, NearestIsNearer, NearestIsTheOnly, ProductsAreWrapped};
 
 /// The number that is nearest to t*x/q is so, for every q by at most a half, and for q odd by less and alone.
@@ -16,9 +16,10 @@ pub fn products()
     ensures fit { TensorsFit }
 {}
 
-/// Relinearisation keeps the phase of a triple, but for l * n * W times the noise of the key's rows.
+/// Relinearisation keeps the phase of a triple, but for l * n * W times the noise of the key's rows, and is of the ring.
 pub fn relinearisations()
     ensures noise { RelinearisationsAddLittle }
+    ensures fit { RelinearisationsFit }
 {}
 
 /// The tensor of two ciphertexts carries the product of their plaintexts within a bound that is said in numbers, and so
