@@ -1,13 +1,13 @@
 -- Worked instances: digits, switches and rotations at small numbers, by computation.
 use Rattle.std.proofs.Common.{◌≡◌, ◌<◌, ℕ, zero, suc, List, [], ◌∷◌, map, true, false, refl, arith}
-use Rattle.std.specs.Prelude.{ℤ, pos, negsuc, ◌≤◌}
+use Rattle.std.specs.Prelude.{ℤ, pos, negsuc, ◌≤◌, All}
 use Rattle.std.specs.List.{range_with_len}
-use Rattle.ring_spec.specs.Ring.{total, residue, residues, centre, wrapped, turned, size, ring_sum, ring_difference, ring_multiple, ring_product, ring_turned}
+use Rattle.ring_spec.specs.Ring.{total, residue, residues, centre, wrapped, turned, IsPoly, size, ring_sum, ring_difference, ring_multiple, ring_product, ring_turned}
 use Rattle.ring_spec.specs.Pairs.{Cipher}
 use Rattle.bfv_spec.specs.Scheme.{cipher_sum}
 use Rattle.gadget_laws.specs.Switching.{switch_noise}
 use Rattle.gadget_spec.specs.Digits.{Gadget, Serves, weight, widest, base_digit, lowest, divided, rest, balanced_digit, digit, digit_poly, digit_polys}
-use Rattle.gadget_spec.specs.Switching.{KeyRow, IsSwitchKey, row_at, row_phase, combined, key_switch, rotation}
+use Rattle.gadget_spec.specs.Switching.{KeyRow, IsSwitchKey, row_at, row_phase, combined, key_switch, rotation, IsCipher}
 
 -- ---- digits of eight bits, of residues modulo 31525197391593473, in seven rows
 
@@ -98,6 +98,10 @@ not_for_another : IsSwitchKey 97 2 three secret secret 1 key → ⊥
 unfolding weight row_phase ring_sum ring_difference ring_multiple ring_product residues residue centre wrapped total
 not_for_another k = absurd (omega (arith, k.noise 0 (omega arith)))
 
+-- nor are its first two rows alone
+not_without_a_row : IsSwitchKey 97 2 three secret (1 ∷ 1 ∷ []) 1 (record { b = 86 ∷ 10 ∷ []; a = 11 ∷ 2 ∷ [] } ∷ record { b = 66 ∷ 51 ∷ []; a = 40 ∷ 95 ∷ [] } ∷ []) → ⊥
+not_without_a_row k = absurd (omega (arith, k.rows))
+
 -- the digits of 85 and 46, and of -12 and 46
 polys : digit_polys 97 2 three (85 ∷ 46 ∷ []) ≡ (5 ∷ 6 ∷ []) ∷ (2 ∷ 5 ∷ []) ∷ (1 ∷ 0 ∷ []) ∷ []
 unfolding digit_polys digit_poly digit base_digit residues residue
@@ -126,6 +130,21 @@ rotated = refl
 rotated_balanced : rotation 97 2 three_balanced key 3 cipher ≡ record { c0 = 16 ∷ 48 ∷ []; c1 = 77 ∷ 79 ∷ [] }
 unfolding rotation key_switch combined digit_polys digit_poly digit balanced_digit rest lowest divided centre cipher_sum ring_sum ring_product ring_turned residues residue turned wrapped total
 rotated_balanced = refl
+
+-- it is of the ring modulo 97, and not modulo 60
+both_below : (x y : ℕ) → x < 97 → y < 97 → IsPoly 97 2 (x ∷ y ∷ [])
+both_below x y h l = record { entries = refl; below = each }
+  where
+    each : All (λ z. z < 97) (x ∷ y ∷ [])
+    each zero d p = h
+    each (suc zero) d p = l
+    each (suc (suc i)) d p = absurd (omega (arith, p))
+
+fits : IsCipher 97 2 cipher
+fits = record { c0 = both_below 60 55 (omega arith) (omega arith); c1 = both_below 11 2 (omega arith) (omega arith) }
+
+too_large : IsCipher 60 2 cipher → ⊥
+too_large c = let first : 60 < 60 = c.c0.below 0 0 (omega arith) in absurd (omega (arith, first))
 
 -- ---- what a switch adds, in numbers, with n = 8 and rows whose noise is within 2
 

@@ -1,12 +1,13 @@
 -- Worked instances: a share and a key at small numbers, and where the draws of each share stand, with the words left
 -- as they are.
-use Rattle.std.proofs.Common.{◌≡◌, ◌<◌, ◌≤◌, ℕ, zero, suc, List, [], ◌∷◌, false, refl, arith}
+use Rattle.std.proofs.Common.{◌≡◌, ◌<◌, ◌≤◌, ℕ, zero, suc, List, [], ◌∷◌, map, get_or, false, refl, ap, arith}
 use Rattle.ring_spec.specs.Ring.{total, residue, residues, centre, wrapped, size, ring_sum, ring_difference, ring_negative, ring_multiple, ring_product, ring_turned}
+use Rattle.ring_laws.specs.Aggregate.{ring_total}
 use Rattle.draw_spec.specs.Draws.{uniform, small, ternary}
 use Rattle.bfv_spec.specs.Drawn.{uniform_poly, small_poly, ternary_poly}
 use Rattle.gadget_spec.specs.Digits.{Gadget, weight}
 use Rattle.gadget_spec.specs.Switching.{IsSwitchKey, row_at, row_phase}
-use Rattle.key_spec.specs.Rounds.{switch_share}
+use Rattle.key_spec.specs.Rounds.{switch_share, share_row, AreSums}
 use Rattle.key_spec.specs.Rotations.{rotation_row, honest_rotation, rotation_key}
 use Rattle.key_spec.specs.Relinearisation.{ephemeral, first_round_rows, honest_first_round, second_round_rows, honest_second_round, relin_key}
 
@@ -47,6 +48,25 @@ is_key = record { rows = refl; noise = each }
 not_within_four : IsSwitchKey 97 2 three (1 ∷ 96 ∷ []) (0 ∷ 95 ∷ []) 4 (relin_key 97 2 three first_sums second_sums) → ⊥
 unfolding relin_key weight row_phase ring_sum ring_difference ring_multiple ring_product residues residue centre wrapped total
 not_within_four k = absurd (omega (arith, k.noise 1 (omega arith)))
+
+-- ---- sums, modulo 5: of the shares of the parties 1 and 3, whose rows are j + X and 2 + j X
+
+abbrev shares : ℕ → List (List ℕ)
+shares j = (j ∷ 1 ∷ []) ∷ (2 ∷ j ∷ []) ∷ []
+
+are_sums : AreSums 5 2 2 shares (1 ∷ 3 ∷ []) ((4 ∷ 2 ∷ []) ∷ (4 ∷ 4 ∷ []) ∷ [])
+unfolding ring_total ring_sum residues residue
+are_sums = record { each = each }
+  where
+    each : (r : ℕ) → r < 2 → get_or ((4 ∷ 2 ∷ []) ∷ (4 ∷ 4 ∷ []) ∷ []) r [] ≡ ring_total 5 2 (map (share_row shares r) (1 ∷ 3 ∷ []))
+    each zero l = refl
+    each (suc zero) l = refl
+    each (suc (suc r)) l = absurd (omega (arith, l))
+
+-- a row that is short of a share is no sum
+not_a_sum : AreSums 5 2 2 shares (1 ∷ 3 ∷ []) ((4 ∷ 2 ∷ []) ∷ (2 ∷ 1 ∷ []) ∷ []) → ⊥
+unfolding ring_total ring_sum residues residue
+not_a_sum s = let first : 2 ≡ 4 = ap (λ (f : List ℕ). get_or f 0 0) (s.each 1 (omega arith)) in absurd (omega (arith, first))
 
 -- ---- where draws stand, modulo 17 with two coefficients and two rows of three bits; streams of the instances 5 and 6
 

@@ -1,7 +1,7 @@
 -- Worked instances: roundings, tensors and relinearisation at small numbers, by computation.
-use Rattle.std.proofs.Common.{◌≡◌, ◌+◌, List, [], ◌∷◌, true, false, refl, arith}
-use Rattle.std.specs.Prelude.{pos, negsuc}
-use Rattle.ring_spec.specs.Ring.{total, residue, residues, centre, wrapped, ring_sum, ring_difference, ring_multiple, ring_product}
+use Rattle.std.proofs.Common.{◌≡◌, ◌+◌, ◌<◌, ℕ, zero, suc, List, [], ◌∷◌, true, false, refl, arith}
+use Rattle.std.specs.Prelude.{pos, negsuc, All}
+use Rattle.ring_spec.specs.Ring.{total, residue, residues, centre, wrapped, IsPoly, ring_sum, ring_difference, ring_multiple, ring_product}
 use Rattle.ring_spec.specs.Pairs.{Cipher}
 use Rattle.bfv_spec.specs.Scheme.{cipher_sum}
 use Rattle.gadget_laws.specs.Switching.{switch_noise}
@@ -9,7 +9,7 @@ use Rattle.tensor_laws.specs.Products.{crossed, rounding, tensor_noise}
 use Rattle.gadget_spec.specs.Digits.{Gadget, widest, base_digit, lowest, divided, rest, balanced_digit, digit, digit_poly, digit_polys}
 use Rattle.gadget_spec.specs.Switching.{KeyRow, combined, key_switch}
 use Rattle.tensor_spec.specs.Rounding.{int_product, nearest}
-use Rattle.tensor_spec.specs.Tensors.{Triple, rescaled, tensor, triple_phase, TripleCarries, relinearisation}
+use Rattle.tensor_spec.specs.Tensors.{Triple, IsTriple, rescaled, tensor, triple_phase, TripleCarries, relinearisation}
 
 -- ---- rounding, with t = 16 and q = 31525197391593473: at the half of q/t and past it, of either sign
 
@@ -50,6 +50,21 @@ product = record { o0 = 88 ∷ 90 ∷ []; o1 = 19 ∷ 73 ∷ []; o2 = 3 ∷ 76 �
 product_is : tensor 97 2 4 one other ≡ product
 unfolding tensor rescaled nearest residues residue centre wrapped total
 product_is = refl
+
+-- its parts are below 97, and not below 90
+both_below : (x y : ℕ) → x < 97 → y < 97 → IsPoly 97 2 (x ∷ y ∷ [])
+both_below x y h l = record { entries = refl; below = each }
+  where
+    each : All (λ z. z < 97) (x ∷ y ∷ [])
+    each zero d p = h
+    each (suc zero) d p = l
+    each (suc (suc i)) d p = absurd (omega (arith, p))
+
+fits : IsTriple 97 2 product
+fits = record { o0 = both_below 88 90 (omega arith) (omega arith); o1 = both_below 19 73 (omega arith) (omega arith); o2 = both_below 3 76 (omega arith) (omega arith) }
+
+too_large : IsTriple 90 2 product → ⊥
+too_large x = let second : 90 < 90 = x.o0.below 1 0 (omega arith) in absurd (omega (arith, second))
 
 -- under 1 - X, whose square is -2X
 phase_is : triple_phase 97 2 (1 ∷ 96 ∷ []) product ≡ 41 ∷ 41 ∷ []
