@@ -5,6 +5,7 @@ use Rattle.std.specs.List.{range_with_len}
 use Rattle.ring_spec.specs.Ring.{total, residue, residues, centre, wrapped, turned, IsPoly, size, ring_sum, ring_difference, ring_multiple, ring_product, ring_turned}
 use Rattle.ring_spec.specs.Pairs.{Cipher}
 use Rattle.bfv_spec.specs.Scheme.{cipher_sum}
+use Rattle.gadget_laws.specs.Shifted.{halves}
 use Rattle.gadget_laws.specs.Switching.{switch_noise}
 use Rattle.gadget_spec.specs.Digits.{Gadget, Serves, weight, widest, base_digit, lowest, divided, rest, balanced_digit, digit, digit_poly, digit_polys}
 use Rattle.gadget_spec.specs.Switching.{KeyRow, IsSwitchKey, row_at, row_phase, combined, key_switch, rotation, IsCipher}
@@ -59,6 +60,11 @@ below_half = refl
 above_half : digits balanced 15762598695796737 ≡ pos 0 ∷ pos 0 ∷ pos 0 ∷ pos 0 ∷ pos 0 ∷ pos 0 ∷ negsuc 55 ∷ []
 unfolding digit balanced_digit rest lowest divided centre residue
 above_half = refl
+
+-- a half in each of seven digits of eight bits
+all_halves : halves 8 7 ≡ 36170086419038336
+unfolding halves
+all_halves = refl
 
 -- ---- modulo 97 with two coefficients and three rows of three bits; the secret is 1 - X
 

@@ -7,5 +7,6 @@ pub mod Combined
 pub mod Reduced
 pub mod Switches
 pub mod SwitchTotals
+pub mod Shifts
 pub mod Rotations
 mod Instances

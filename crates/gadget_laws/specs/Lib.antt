@@ -1,3 +1,4 @@
 pub mod Digits
 pub mod Switching
 pub mod Totals
+pub mod Shifted
