@@ -20,7 +20,7 @@ pub record Serves (q : ℕ) (g : Gadget) : Type 0 where
 unfoldable pub weight : Gadget → ℕ → ℕ
 weight g i = 2 ^ (g.bits * i)
 
--- W, the greatest absolute value of a digit: 2^b - 1, and 2^(b-1) where digits are balanced
+-- W, which no digit passes in absolute value: 2^b - 1, and 2^(b-1) where digits are balanced
 unfoldable pub widest : Gadget → ℕ
 widest g = cond g.balanced (2 ^ (g.bits - 1)) (2 ^ g.bits - 1)
 
@@ -60,7 +60,7 @@ digit q g i x = cond g.balanced (balanced_digit g.bits g.rows i (centre q x)) (p
 abbrev pub digit_at : ℕ → Gadget → ℕ → List ℕ → ℕ → ℤ
 digit_at q g i f k = digit q g i (get_or f k 0)
 
--- the polynomial of the digits i, by their residues; and those of all rows
+-- the polynomial of the digits i of all coefficients, by their residues, and the polynomials of all rows
 unfoldable pub digit_poly : ℕ → ℕ → Gadget → List ℕ → ℕ → List ℕ
 digit_poly q n g f i = residues q n (digit_at q g i f)
 

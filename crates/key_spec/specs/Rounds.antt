@@ -1,4 +1,4 @@
--- What a share of a switch key's row is, and what the sums of shares are.
+-- What a share of a switch key's row is, and what the sums of shares are. After Mouchet et al. 2021.
 use Rattle.std.specs.Prelude.{◌≡◌, ℕ, ◌<◌, List, [], map, get_or}
 use Rattle.ring_spec.specs.Ring.{ring_sum, ring_negative, ring_multiple, ring_product}
 use Rattle.ring_laws.specs.Aggregate.{ring_total}

@@ -17,7 +17,7 @@ pub record Triple : Type 0 where
 abbrev pub lifted : ℕ → List ℕ → ℕ → ℤ
 lifted q f = signed (centres q f)
 
--- the coefficient of t/q times a polynomial, rounded; and the residues of all n
+-- the coefficients of t/q times a polynomial, rounded, and the residues of n of them
 abbrev pub scaled : ℕ → ℕ → (ℕ → ℤ) → ℕ → ℤ
 scaled q t a i = nearest t q (a i)
 
