@@ -3,4 +3,5 @@ pub mod Rows
 pub mod Noises
 pub mod RotationKeys
 pub mod RelinKeys
+pub mod Shapes
 mod Instances
