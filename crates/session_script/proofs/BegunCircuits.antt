@@ -41,7 +41,7 @@ plain-fits numbers coeffs some =
     IsPoly-filled numbers.n numbers.t coeffs some (leb-true (length coeffs) numbers.n tests.0) (all-below numbers.t coeffs tests.1))
 
 -- the owners of a node more
-owners-append : (nodes : List Node) (added : Node) → owners (nodes ++ added ∷ []) ≡ owners nodes ++ owners (added ∷ [])
+pub owners-append : (nodes : List Node) (added : Node) → owners (nodes ++ added ∷ []) ≡ owners nodes ++ owners (added ∷ [])
 unfolding owners
 owners-append [] added = refl
 owners-append (node.Input owner ∷ rest) added = ap (λ os. owner ∷ os) (owners-append rest added)

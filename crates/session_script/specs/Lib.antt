@@ -7,3 +7,4 @@ pub mod CircuitLines
 pub mod LaneLines
 pub mod Scripts
 pub mod Kept
+pub mod Sections

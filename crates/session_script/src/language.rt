@@ -1,10 +1,11 @@
-ghost use Rattle.std.specs.Prelude.{◌≡◌, ◌+◌, ◌^◌, ◌<◌, ◌≤◌, length, true, Ok, IfOk, IfErr};
+ghost use Rattle.std.specs.Prelude.{◌≡◌, ◌+◌, ◌^◌, ◌<◌, length, true, Ok, IfOk, IfErr};
 ghost use Rattle.session_script.specs.Words.{texts};
 ghost use Rattle.session_script.specs.declared.place.Place.TheVariants.{Start};
 ghost use Rattle.session_script.specs.declared.reason.Reason.TheVariants as reason;
 ghost use Rattle.session_script.specs.Lines.{words, all_plain};
 ghost use Rattle.session_script.specs.Checks.{IsFaultOf, Follows, unless};
-ghost use Rattle.session_script.specs.Kept.{AreNamed, ArePresent};
+ghost use Rattle.session_script.specs.Kept.{IsAccepted};
+ghost use Rattle.session_script.specs.Sections.{statements, AreSections};
 ghost use Rattle.session_script.specs.Scripts.{done_statement, between_lanes, between_circuits, statement, spoken, after_line, ended, read_from, script, asked, IsStopOf};
 
 use crate::checks::{is_statement, unless};
@@ -178,16 +179,15 @@ fn read_lines(alloc: Global, lines: &[&[u8]]) -> Result<Script, ScriptStop>
 /// the first reason in the order of `Reason`.
 ///
 /// No line is copied, and each byte is looked at a bounded number of times. `ScriptStop::NoMemory`
-/// may come for any text. The circuits of a script, at most 64, keep the rules of circuits for its
-/// parameters, and have one value of n coefficients below t for each input. Those who are present are
-/// parties, each above the last.
+/// may come for any text. What is accepted has checked numbers, parties that rise, circuits under names
+/// that differ with a value for each input, and lanes, all within their limits; and its statements stand
+/// in the order of its sections.
 #[tactic(auto, unfolding(crate::specs::Scripts::script))]
 pub fn read_script(alloc: Global, bytes: &[u8]) -> Result<Script, ScriptStop>
     requires short { length bytes.now + 1 < 2 ^ 32 }
     ensures script { IfOk result (λ s. script bytes.now ≡ Ok (asked s)) }
-    ensures circuits { IfOk result (λ s. AreNamed (asked s)) }
-    ensures present { IfOk result (λ s. ArePresent (asked s)) }
-    ensures few { IfOk result (λ s. length (asked s).circuits ≤ 64) }
+    ensures accepted { IfOk result (λ s. IsAccepted (asked s)) }
+    ensures sections { IfOk result (λ _. AreSections (statements bytes.now)) }
     ensures refusal { IfErr result (IsStopOf (script bytes.now)) }
 {
     let lines = lines(alloc, bytes)?;

@@ -4,9 +4,10 @@
 //! the values of their inputs, and the lanes of those that act, as docs/FORMATS.md says. `read_script`
 //! answers the script that `specs/Scripts.antt` defines, or the first line that breaks a rule with the
 //! first reason in the order of `Reason`, and nothing else but for want of memory. Of each script that is
-//! read callers may rely on what `specs/Kept.antt` says: its circuits, of which there are at most 64, keep
-//! their rules and have fitting values, and those who are present are parties and rise. No line is copied.
-//! What a script means is not said here.
+//! read callers may rely on what `IsAccepted` of `specs/Kept.antt` says without the grammar: its numbers are
+//! checked, its parties rise, its circuits, their inputs and rotations, its lanes and their lines are within
+//! their limits and keep their rules; and `specs/Sections.antt` says in which order its statements stand. No
+//! line is copied. What a script means is not said here.
 #![tactic(auto)]
 
 mod checks;
