@@ -74,7 +74,7 @@ differ test a (suc n) = at (test a) (recursion_from_All (λ y. nat_eq a y ≡ fa
     at false e all = all
 
 -- what passes is in the list of those that pass, and nothing else
-passes : (test : ℕ → Bool) (q : ℕ) (xs : List ℕ) → list_any (nat_eq q) (filter test xs) ≡ true → test q ≡ true
+pub passes : (test : ℕ → Bool) (q : ℕ) (xs : List ℕ) → list_any (nat_eq q) (filter test xs) ≡ true → test q ≡ true
 passes test q xs e = at (test q) (list_any (nat_eq q) xs) (sym (any-filter_same (nat_eq q) test (test q) (λ k same. ap test (sym (eqb-true q k same))) xs) ∙ e)
   where
     at : (a b : Bool) → (a && b) ≡ true → a ≡ true

@@ -5,6 +5,7 @@ pub mod KeptHeads
 pub mod KeptCircuits
 pub mod KeptLanes
 pub mod KeptLemmas
+pub mod KeptBounds
 pub mod PieceLemmas
 pub mod SectionLaws
 mod AcceptedScripts
