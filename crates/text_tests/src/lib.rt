@@ -10,6 +10,8 @@ mod samples;
 pub use samples::{AT_LIMIT, ONE, PAST_LIMIT, SEED, THREE, read, script};
 
 #[cfg(test)]
+mod limits;
+#[cfg(test)]
 mod lines;
 #[cfg(test)]
 mod scripts;

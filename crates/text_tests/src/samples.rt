@@ -1,6 +1,6 @@
 //! What several tests begin with: lines of scripts, and whole scripts.
 ghost use Rattle.std.specs.Prelude.{IfOk};
-ghost use Rattle.session_script.specs.Kept.{AreNamed};
+ghost use Rattle.session_script.specs.Kept.{IsAccepted};
 ghost use Rattle.session_script.specs.Scripts.{asked};
 
 use session_script::{Script, ScriptStop, read_script};
@@ -47,7 +47,7 @@ pub fn script(
 
 /// What is read from a text, which is too long for the tests above 1 MiB.
 pub fn read(alloc: Global, text: &str) -> Result<Script, ScriptStop>
-    ensures { IfOk result (λ script. AreNamed (asked script)) }
+    ensures { IfOk result (λ script. IsAccepted (asked script)) }
 {
     let bytes = text.as_bytes();
     if bytes.len() > 1_048_576 {

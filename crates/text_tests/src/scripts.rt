@@ -94,7 +94,7 @@ const REFUSED: [(usize, &str, u32, Reason); 44] = [
 ];
 
 // Whether the text is refused in this line and for this reason.
-fn is_refused(alloc: Global, text: &str, at: u32, wanted: Reason) -> bool {
+pub(crate) fn is_refused(alloc: Global, text: &str, at: u32, wanted: Reason) -> bool {
     match read(alloc, text).err() {
         Some(ScriptStop::Refused { line, reason }) => line == at && reason == wanted,
         _ => false,
@@ -120,63 +120,6 @@ fn refuses_by_each_reason(rt: HostRuntime) -> Result<(), Fail> {
         assert!(rt; so, "{line}: {text}");
     }
     assert!(rt; is_refused(alloc, "", 1, Reason::End));
-    Ok(())
-}
-
-// The base script with a text again and again before its line `line`, which is `last`.
-fn repeated(
-    alloc: Global,
-    line: usize,
-    last: &str,
-    text: &str,
-    count: u32,
-) -> Result<String, AllocError> {
-    let mut lines = String::new(alloc);
-    for _ in 0..count {
-        lines.push_str(text)?;
-    }
-    lines.push_str(last)?;
-    changed(alloc, line, &lines)
-}
-
-// Whether the base with a text so often before a line is read.
-fn is_full(
-    alloc: Global,
-    line: usize,
-    last: &str,
-    text: &str,
-    most: u32,
-) -> Result<bool, AllocError> {
-    let full = repeated(alloc, line, last, text, most)?;
-    Ok(read(alloc, &full).is_ok())
-}
-
-// Whether the base with a text so often before a line has too many.
-fn is_over(
-    alloc: Global,
-    line: usize,
-    last: &str,
-    text: &str,
-    too_many: u32,
-    at: u32,
-) -> Result<bool, AllocError> {
-    let over = repeated(alloc, line, last, text, too_many)?;
-    Ok(is_refused(alloc, &over, at, Reason::Limit))
-}
-
-#[test]
-fn refuses_one_too_many(rt: HostRuntime) -> Result<(), Fail> {
-    let alloc = rt.alloc();
-    // The line, what it is, what stands before it, how often it may, one more, and the line that is refused then.
-    let rows = [
-        (9, "end", "neg 0\n", 253, 254, 262),
-        (10, "done", "lane\nend\n", 8, 9, 26),
-    ];
-    for (line, last, text, most, too_many, at) in rows {
-        assert!(rt; is_full(alloc, line, last, text, most)?, "{text}");
-        let over = is_over(alloc, line, last, text, too_many, at)?;
-        assert!(rt; over, "{text}");
-    }
     Ok(())
 }
 
