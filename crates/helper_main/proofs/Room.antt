@@ -15,7 +15,7 @@ use Rattle.run_laws.specs.Lengths.{signatures, inputs, most_sent, most_round, li
 use Rattle.run_laws.proofs.Lengths.{serial_is_short}
 use Rattle.run_laws.proofs.Circuits.{many_plans, few_are_signed, few_are_inputs}
 use Rattle.session_script.specs.Asked.{Asked, Named, Numbers}
-use Rattle.session_script.specs.Kept.{IsNamed, AreNamed, IsParty, Rising, ArePresent}
+use Rattle.session_script.specs.Kept.{IsNamed, AreNamed, IsParty, Rising, ArePresent, IsAccepted}
 use Rattle.session_spec.specs.Settings.{Setting, Offer, nodes_of, rules}
 use Rattle.run_report.specs.Reports.{bounding, offered, setting_asked}
 use Rattle.lane_workers.specs.Acting.{run_behind, Begins}
@@ -69,9 +69,9 @@ unfolding most_calls most_round most_sent
 most_of f present few plans signed given = rw lines_none (omega arith)
 
 -- the history of a script is short
-pub history_short : (a : Asked) → AreNamed a → ArePresent a → length a.circuits ≤ 64 → a.numbers.n ≤ 4096 → a.numbers.parties ≤ 32 → a.lanes ≡ [] → length (history a) ≤ most_entries
+pub history_short : (a : Asked) → IsAccepted a → a.lanes ≡ [] → length (history a) ≤ most_entries
 unfolding history rules setting_asked
-history_short a named present few n parties none =
+history_short a h none =
     let p : Bounding = bounding a in
     let circuits = circuits_of a in
     let f = fixed_of p circuits in
@@ -79,8 +79,11 @@ history_short a named present few n parties none =
     let plans = many_plans p circuits in
     let signed = few_are_signed p circuits in
     let given = few_are_inputs p circuits in
-    let sum = sum_by-le node_count 256 circuits (all_small a named) in
-    let there = few_present a present in
+    let sum = sum_by-le node_count 256 circuits (all_small a h.named) in
+    let there = few_present a h.present in
+    let few = h.few in
+    let n = h.numbers.degree.1 in
+    let parties = h.numbers.group.2 in
     let most = most_of f a.present (omega arith) (omega arith) (omega arith) (omega arith) in
     let short = serial_is_short f a.present [] (circuits_are_whole p circuits) in
     rw none (omega arith)

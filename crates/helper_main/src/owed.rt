@@ -1,6 +1,6 @@
 ghost use Rattle.std.specs.Prelude.{◌≡◌, ◌≤◌, length, true, IfOk};
 ghost use Rattle.session_script.specs.Scripts.{script as script_of, asked};
-ghost use Rattle.session_script.specs.Kept.{AreNamed, ArePresent};
+ghost use Rattle.session_script.specs.Kept.{IsAccepted};
 ghost use Rattle.helper_main.specs.Works.{takes, text_for, owed, is_done};
 ghost use Rattle.helper_main.specs.Owed.{most_bytes};
 
@@ -22,9 +22,7 @@ pub(crate) struct Answer {
 #[tactic(auto, unfolding(crate::specs::Works::text_for))]
 fn text_for(alloc: Global, work: Work, script: &Script) -> Result<Vec<u8>, AllocError>
     requires taken { takes work (asked script.now) ≡ true }
-    requires named { AreNamed (asked script.now) }
-    requires present { ArePresent (asked script.now) }
-    requires few { length script.now.circuits ≤ 64 }
+    requires accepted { IsAccepted (asked script.now) }
     ensures { IfOk result (λ text. text.items ≡ text_for work (asked script.now)) }
 {
     match work {
@@ -36,9 +34,7 @@ fn text_for(alloc: Global, work: Work, script: &Script) -> Result<Vec<u8>, Alloc
 /// The text for a script that keeps the rules of the language.
 #[tactic(auto, unfolding(crate::specs::Works::owed, crate::specs::Works::is_done))]
 fn for_script(alloc: Global, work: Work, script: &Script) -> Result<Answer, AllocError>
-    requires named { AreNamed (asked script.now) }
-    requires present { ArePresent (asked script.now) }
-    requires few { length script.now.circuits ≤ 64 }
+    requires accepted { IsAccepted (asked script.now) }
     ensures text { IfOk result (λ o. o.text.items ≡ owed work (Ok (asked script.now))) }
     ensures done { IfOk result (λ o. o.is_done ≡ is_done work (Ok (asked script.now))) }
 {

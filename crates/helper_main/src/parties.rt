@@ -1,7 +1,7 @@
 ghost use Rattle.std.specs.Prelude.{◌≡◌, ◌+◌, ◌<◌, ◌≤◌, length, map, All, IfOk, OnOk};
 ghost use Rattle.std.specs.List.{range_with_len};
 ghost use Rattle.session_script.specs.Scripts.{asked};
-ghost use Rattle.session_script.specs.Kept.{AreNamed};
+ghost use Rattle.session_script.specs.Kept.{IsAccepted};
 ghost use Rattle.run_report.specs.Reports.{offered};
 ghost use Rattle.helper_main.specs.Inputs.{HasOwn};
 ghost use Rattle.helper_main.specs.Parties.{number_of, IsPartyOf};
@@ -36,7 +36,7 @@ fn push_values(
     c: u32,
     p: u32,
 ) -> Result<(), AllocError>
-    requires named { AreNamed (asked script.now) }
+    requires accepted { IsAccepted (asked script.now) }
     requires there { c < length script.now.circuits }
     requires earlier { HasOwn (asked script.now) p c 0 values.old }
     ensures { OnOk result (HasOwn (asked script.now) p (c + 1) 0 values.new) }
@@ -53,8 +53,7 @@ fn push_values(
 
 /// The values of all inputs that party p owns.
 fn values_of(alloc: Global, script: &Script, p: u32) -> Result<Values, AllocError>
-    requires few { length script.now.circuits ≤ 64 }
-    requires named { AreNamed (asked script.now) }
+    requires accepted { IsAccepted (asked script.now) }
     ensures { IfOk result (λ values. HasOwn (asked script.now) p (length script.now.circuits) 0 values) }
 {
     let mut values = Values::new(alloc);
@@ -74,8 +73,7 @@ fn party(
 ) -> Result<SeedParty, AllocError>
     requires ring { ring.now.params ≡ script.now.params }
     requires roll { roll.now.master ≡ script.now.master }
-    requires few { length script.now.circuits ≤ 64 }
-    requires named { AreNamed (asked script.now) }
+    requires accepted { IsAccepted (asked script.now) }
     requires some_party { 1 ≤ p }
     requires of_all { p ≤ script.now.params.parties }
     ensures number { IfOk result (λ party. number_of party ≡ p) }
@@ -94,8 +92,7 @@ pub(crate) fn parties(
 ) -> Result<Vec<SeedParty>, AllocError>
     requires ring { ring.now.params ≡ script.now.params }
     requires roll { roll.now.master ≡ script.now.master }
-    requires few { length script.now.circuits ≤ 64 }
-    requires named { AreNamed (asked script.now) }
+    requires accepted { IsAccepted (asked script.now) }
     ensures numbers { IfOk result (λ ps. map number_of ps.items ≡ range_with_len 1 script.now.params.parties) }
     ensures parties { IfOk result (λ ps. All (IsPartyOf script.now.params (asked script.now)) ps.items) }
 {

@@ -1,6 +1,6 @@
-ghost use Rattle.std.specs.Prelude.{◌≡◌, ◌<◌, ◌≤◌, true, [], length, IfOk};
+ghost use Rattle.std.specs.Prelude.{◌≡◌, ◌<◌, true, [], IfOk};
 ghost use Rattle.session_script.specs.Scripts.{asked};
-ghost use Rattle.session_script.specs.Kept.{AreNamed, ArePresent};
+ghost use Rattle.session_script.specs.Kept.{IsAccepted};
 ghost use Rattle.session_state.specs.Standings.{setting};
 ghost use Rattle.run_report.specs.Reports.{setting_asked};
 ghost use Rattle.helper_main.specs.Runs.{history, most_entries, serial_report};
@@ -23,8 +23,7 @@ const MOST_CALLS: u32 = 8_388_608;
 fn opened(alloc: Global, ring: &Arc<Ring>, script: &Script) -> Result<Session<SeedRoll>, AllocError>
     requires ring { ring.now.value.params ≡ script.now.params }
     requires free { are_free script.now.circuits ≡ true }
-    requires few { length script.now.circuits ≤ 64 }
-    requires named { AreNamed (asked script.now) }
+    requires accepted { IsAccepted (asked script.now) }
     ensures setting { IfOk result (λ session. setting session.standing ≡ setting_asked (asked script.now)) }
     ensures master { IfOk result (λ session. session.roll.master ≡ script.now.master) }
     ensures params { IfOk result (λ session. session.standing.params ≡ script.now.params) }
@@ -40,9 +39,7 @@ fn opened(alloc: Global, ring: &Arc<Ring>, script: &Script) -> Result<Session<Se
 fn run(alloc: Global, ring: &Arc<Ring>, script: &Script) -> Result<Session<SeedRoll>, AllocError>
     requires ring { ring.now.value.params ≡ script.now.params }
     requires free { are_free script.now.circuits ≡ true }
-    requires few { length script.now.circuits ≤ 64 }
-    requires named { AreNamed (asked script.now) }
-    requires present { ArePresent (asked script.now) }
+    requires accepted { IsAccepted (asked script.now) }
     requires no_lanes { (asked script.now).lanes ≡ [] }
     ensures setting { IfOk result (λ session. setting session.standing ≡ setting_asked (asked script.now)) }
     ensures master { IfOk result (λ session. session.roll.master ≡ script.now.master) }
@@ -68,9 +65,7 @@ fn run(alloc: Global, ring: &Arc<Ring>, script: &Script) -> Result<Session<SeedR
 /// The report of a script.
 pub(crate) fn report(alloc: Global, script: &Script) -> Result<Vec<u8>, AllocError>
     requires free { are_free script.now.circuits ≡ true }
-    requires few { length script.now.circuits ≤ 64 }
-    requires named { AreNamed (asked script.now) }
-    requires present { ArePresent (asked script.now) }
+    requires accepted { IsAccepted (asked script.now) }
     requires no_lanes { (asked script.now).lanes ≡ [] }
     ensures { IfOk result (λ text. text.items ≡ serial_report (asked script.now)) }
 {

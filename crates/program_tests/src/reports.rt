@@ -1,6 +1,6 @@
 //! The lines, checks and refusals that are printed, against texts written by hand and digests made by another SHA-256.
 ghost use Rattle.std.specs.Prelude.{IfOk};
-ghost use Rattle.session_script.specs.Kept.{AreNamed};
+ghost use Rattle.session_script.specs.Kept.{IsAccepted};
 ghost use Rattle.session_script.specs.Scripts.{asked};
 
 use mod_ring::{Ciphertext, Polys, Ring, of_signed};
@@ -122,7 +122,7 @@ fn circuits_without_values(rt: HostRuntime) -> Result<(), Fail> {
 
 // What is read from a script with these parameters and circuits, in which nobody is present.
 fn read_circuits(alloc: Global, params: &str, circuits: &str) -> Result<Script, ScriptStop>
-    ensures { IfOk result (λ script. AreNamed (asked script)) }
+    ensures { IfOk result (λ script. IsAccepted (asked script)) }
 {
     read(alloc, script(alloc, params, "", circuits)?.as_str())
 }

@@ -25,7 +25,7 @@ inputs-preserved c =
           let told = w.deref-then-eq.ensures ∙ w.values.ensures ∙ sym (ap (λ (z : Named). z.values) at) in
           let value : w.from_vec.result ≡ asked_value a c.args.c c.inputs.k =
           w.from_vec.ensures ∙ w.in_ok-value.ensures.items ∙ w.coeffs.ensures ∙ w.at.ensures ∙ ap (λ (z : List (List ℕ)). get_or z c.inputs.k []) told in
-          own_pushed a c.args.p c.args.c c.inputs.k w.from_vec.result c.inputs.values c.if-eq.values c.requires.named c.requires.there within own value (w.values-is ∙ w.in_ok-push.ensures.ok) c.inputs.invariant
+          own_pushed a c.args.p c.args.c c.inputs.k w.from_vec.result c.inputs.values c.if-eq.values c.requires.accepted.named c.requires.there within own value (w.values-is ∙ w.in_ok-push.ensures.ok) c.inputs.invariant
       | else-eq w ↦
           let h = own_passed a c.args.p c.args.c c.inputs.k c.inputs.values (other_owner a c.args.p c.args.c c.inputs.k c.owner.result w.if-eq.ensures owner) c.inputs.invariant in
           subst (HasOwn a c.args.p c.args.c (c.inputs.k + 1)) (sym w.values-is) h

@@ -9,15 +9,15 @@ use Rattle.helper_main.proofs.report.opened.Goals as goal
 pub new-requires-clause-keep : goal.new-requires-clause-keep
 new-requires-clause-keep c κs =
     let a = asked c.args.script.now in
-    keeps a c.in_ok-try_clone.field-0.value.params c.args.script.now.params c.in_ok-circuits.circuits refl (ap (λ z. z.params) c.in_ok-try_clone.ensures ∙ c.requires.ring) c.requires.free c.requires.named c.in_ok-circuits.ensures
+    keeps a c.in_ok-try_clone.field-0.value.params c.args.script.now.params c.in_ok-circuits.circuits refl (ap (λ z. z.params) c.in_ok-try_clone.ensures ∙ c.requires.ring) c.requires.free c.requires.accepted.named c.in_ok-circuits.ensures
 
 pub new-requires-clause-few : goal.new-requires-clause-few
-new-requires-clause-few c κs = few (asked c.args.script.now) c.in_ok-circuits.circuits c.in_ok-circuits.ensures c.requires.few
+new-requires-clause-few c κs = few (asked c.args.script.now) c.in_ok-circuits.circuits c.in_ok-circuits.ensures c.requires.accepted.few
 
 pub new-requires-clause-values : goal.new-requires-clause-values
 new-requires-clause-values c κs = λ _.
     let a = asked c.args.script.now in
-    told a c.in_ok-try_clone.field-0.value.params c.args.script.now.params c.in_ok-circuits.circuits refl (ap (λ z. z.params) c.in_ok-try_clone.ensures ∙ c.requires.ring) c.requires.named c.in_ok-circuits.ensures
+    told a c.in_ok-try_clone.field-0.value.params c.args.script.now.params c.in_ok-circuits.circuits refl (ap (λ z. z.params) c.in_ok-try_clone.ensures ∙ c.requires.ring) c.requires.accepted.named c.in_ok-circuits.ensures
 
 pub returns-clause-setting : goal.returns-clause-setting
 returns-clause-setting c =

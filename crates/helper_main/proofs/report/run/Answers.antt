@@ -23,12 +23,11 @@ returns-in-Ok-clause-log c =
 pub unreachable-requires : goal.unreachable-requires
 unreachable-requires c =
     let a = asked c.args.script.now in
-    let params = c.args.script.now.params in
     let before = c.in_ok-session.session in
     let now = c.serial.new.session in
     let full = c.serial.ensures.spent (c.in-Err-Spent.is ∙ ap Err c.in-Err-Spent.field-0-is) in
     let most = c.serial.ensures.most in
     let room = c.in_ok-session.ensures.room in
-    let short = history_short a c.requires.named c.requires.present c.requires.few params.degree.1 params.group.2 c.requires.no_lanes in
+    let short = history_short a c.requires.accepted c.requires.no_lanes in
     let few = never_full a (setting before.standing) before.log.items now.log.items c.as_slice-2.result.now short c.in_ok-session.ensures.setting c.in_ok-session.ensures.log c.requires.no_lanes c.as_slice-2.ensures c.in-Err-Spent.ensures.stopped in
     omega arith
