@@ -183,7 +183,9 @@ fn writes_whole_reports(rt: HostRuntime) -> Result<(), Fail> {
     let open = answers_script(alloc, Work::Run, script, Status::Done, OF_OPEN)?;
     assert!(rt; open, "open");
     let alone = format!(in alloc; "helium 1\n{ONE}\n{ALONE}")?;
-    let whole = answers(alloc, Work::Run, alone.as_bytes(), Status::Done, OF_ALONE)?;
+    // A second write would fail: a report is whole before its first byte is written.
+    let bytes = alone.as_bytes();
+    let whole = faults(alloc, Work::Run, bytes, &[], &[2], Status::Done, OF_ALONE)?;
     assert!(rt; whole, "alone");
     Ok(())
 }
