@@ -118,7 +118,7 @@ module _ (p : Params) (w : Setting) (seeds : List (List ℕ)) (s : State) (h : S
       }
 
   finished_kept : Kept (rules w) then_
-  finished_kept = (change_next who (rules w) s then_ y.kept (turns c Evaluated (inr taken) refl (λ _. inr (begun_before who (circuit s.circuits c) taken)) refl)).0
+  finished_kept = (change_next who (rules w) s then_ y.kept (turns c Evaluated (inr taken) refl refl (λ _. inr (begun_before who (circuit s.circuits c) taken)) refl)).0
 
   finished_honest : IsHonest w seeds (issue (rules w) then_) (grown w (issue (rules w) then_).instances (with_output c ct h))
   unfolding with_output

@@ -24,7 +24,8 @@ use Rattle.session_spec.specs.Shares.{sum_rows}
 use Rattle.session_spec.specs.Outputs.{key_in, input_of, output_of, polys_of, sums_of}
 use Rattle.session_spec.specs.Stores.{Store, cipher_or, held_polys, held_sums, held_input, held_output, held_answer, polys_by, polys_told, zero_sums, grown}
 use Rattle.session_spec.specs.Honesty.{IsHonest}
-use Rattle.session_laws.proofs.Plans.{settled_begun, circuit_within, circuits_number, instance_at, instance_number}
+use Rattle.session_laws.proofs.Plans.{settled_begun, circuit_within, circuits_number}
+use Rattle.session_rules.proofs.Marks.{instance_at, instance_number}
 use Rattle.session_laws.proofs.Keys.{Keyed, key_stays, output_stays, polys_stay}
 use Rattle.session_laws.proofs.Issuing.{IsUnsent, old, gone, new, Roots, issue_roots}
 use Rattle.session_laws.proofs.Totals.{nobody_sums}

@@ -14,7 +14,7 @@ use Rattle.session_rules.specs.States.{State, no_plan, circuit, has_done, openin
 use Rattle.session_rules.specs.Issues.{issue}
 use Rattle.session_rules.specs.Steps.{join}
 use Rattle.session_rules.specs.Facts.{Kept, is_begun}
-use Rattle.session_rules.specs.Runs.{IsWhole}
+use Rattle.session_rules.specs.Grounds.{IsWhole}
 use Rattle.session_rules.proofs.Changes.{joins}
 use Rattle.session_rules.proofs.Contained.{contains_nil}
 use Rattle.session_rules.proofs.Marks.{instance_within}

@@ -12,7 +12,7 @@ use Rattle.proto_names.specs.declared.instance.Instance.{Instance}
 use Rattle.session_rules.specs.States.{State, circuit, is_given, has_done}
 use Rattle.session_rules.specs.Steps.{is_given_input}
 use Rattle.session_rules.specs.Facts.{Kept, IsLater, IsLive, IsSameLater, is_begun}
-use Rattle.session_rules.specs.Runs.{Grounded}
+use Rattle.session_rules.specs.Grounds.{Grounded}
 use Rattle.session_rules.proofs.Contained.{find_some, find_none, none_from_find}
 use Rattle.session_rules.proofs.Marks.{IsDone, done_is, done_from, one_number, complete_lives, live_cases}
 use Rattle.session_spec.specs.Settings.{Setting, rules, input_count}

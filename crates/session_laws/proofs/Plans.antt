@@ -1,22 +1,18 @@
 -- What the rules of a session look at, circuit by circuit, and the instance with a number.
-use Rattle.std.proofs.Common.{◌≡◌, ◌∙◌, sym, ap, refl, ℕ, ◌+◌, ◌-◌, ◌<◌, ◌≤◌, Bool, true, false, nat_eq, cond, inl, inr, List, [], ◌∷◌, length, map, get_or, Contains, Some, None, zero, suc, arith}
-use Rattle.std.specs.List.{list_all, slice_get}
-use Rattle.std.proofs.lemmas.Bool.{cases_lt, cases_eq, and_parts, ne_eqb, eqb-false}
+use Rattle.std.proofs.Common.{◌≡◌, ◌∙◌, sym, ap, refl, ℕ, ◌<◌, ◌≤◌, Bool, true, false, inl, inr, List, [], ◌∷◌, length, map, get_or, zero, suc, arith}
+use Rattle.std.specs.List.{list_all}
+use Rattle.std.proofs.lemmas.Bool.{cases_lt, and_parts}
 use Rattle.std.proofs.lemmas.List.{get_or-map, get_or_past, length-map}
-use Rattle.std.proofs.lemmas.Option.{slice_get_read, slice_get_within, get_or_from_slice_get}
 use Rattle.circuit_form.specs.declared.node.Node.{Node}
 use Rattle.circuit_form.specs.Circuits.{owners}
 use Rattle.noise_ledger.specs.Bounds.{Numbers}
-use Rattle.proto_names.specs.Instances.{instance}
-use Rattle.proto_names.specs.declared.instance.Instance.{Instance}
 use Rattle.session_rules.specs.declared.fixed.Plan.{Plan}
 use Rattle.session_rules.specs.declared.state.CircuitState.{CircuitState}
 use Rattle.session_rules.specs.declared.state.CircuitState.TheVariants.{Refused, Idle, Taken, Evaluated, Answered}
 use Rattle.session_rules.specs.States.{State, plan, no_plan, circuit}
 use Rattle.session_rules.specs.Steps.{is_given_input}
 use Rattle.session_rules.specs.Fixing.{plan_of, fixed_from}
-use Rattle.session_rules.specs.Facts.{Numbered, Kept, is_begun, is_settled}
-use Rattle.session_rules.proofs.Marks.{numbered_at}
+use Rattle.session_rules.specs.Facts.{Kept, is_begun, is_settled}
 use Rattle.session_spec.specs.Settings.{Setting, nodes_of, rules, gadget_rows, no_offer, nodes_at, input_count}
 
 -- ---- the rules
@@ -91,31 +87,3 @@ pub all_given : (row : List Bool) (k : ℕ) → list_all is_given_input row ≡ 
 all_given [] k e l = absurd (omega arith)
 all_given (b ∷ bs) zero e l = (and_parts b (list_all is_given_input bs) e).0
 all_given (b ∷ bs) (suc k) e l = all_given bs k (and_parts b (list_all is_given_input bs) e).1 (omega arith)
-
--- ---- the instance with a number
-
-pub instance_at : (is : List Instance) (i : Instance) → Numbered is → Contains is i → instance is i.id ≡ Some i
-unfolding instance
-instance_at is i n m =
-    let at : i.id ≡ m.0 + 1 = numbered_at is i n m in
-    let some : nat_eq i.id 0 ≡ false = ne_eqb i.id 0 (λ e. omega arith) in
-    let place : i.id - 1 ≡ m.0 = omega arith in
-    rw some (rw place (slice_get_read is (length is) m.0 i refl m.1 (sym m.2)))
-
--- its number is that
-pub instance_number : (is : List Instance) (id : ℕ) (i : Instance) → Numbered is → instance is id ≡ Some i → i.id ≡ id
-unfolding instance
-instance_number is id i n e = at (nat_eq id 0) refl e
-  where
-    at : (b : Bool) → nat_eq id 0 ≡ b → cond b None (slice_get is (id - 1)) ≡ Some i → i.id ≡ id
-    at true z e = cc
-    at false z e =
-        let l = slice_get_within is (id - 1) i e in
-        let same = n (id - 1) i l in
-        let here : get_or is (id - 1) i ≡ i = get_or_from_slice_get is (id - 1) i i e in
-        let ids : i.id ≡ id - 1 + 1 = ap (λ (z : Instance). z.id) (sym here) ∙ same in
-        let some = eqb-false id 0 z in
-        elim (cases_eq id 0) [
-          | inl none ↦ absurd (some none)
-          | inr there ↦ omega arith
-        ]

@@ -8,7 +8,7 @@ use Rattle.session_rules.specs.declared.call.Entry.{Entry}
 use Rattle.session_rules.specs.States.{State, is_given, has_done}
 use Rattle.session_rules.specs.Steps.{ready}
 use Rattle.session_rules.specs.Facts.{Kept, IsLater, IsLive}
-use Rattle.session_rules.specs.Runs.{Grounded}
+use Rattle.session_rules.specs.Grounds.{Grounded}
 use Rattle.session_rules.specs.Histories.{state_after}
 use Rattle.session_spec.specs.Settings.{Setting, rules}
 use Rattle.session_spec.specs.Outputs.{key_in, input_of, inputs_of, output_of, polys_of, share_of}

@@ -19,7 +19,7 @@ use Rattle.session_rules.specs.declared.state.CircuitState.{CircuitState}
 use Rattle.session_rules.specs.declared.state.CircuitState.TheVariants.{Refused, Idle, Taken, Evaluated, Answered}
 use Rattle.session_rules.specs.declared.moves.Move.{Move}
 use Rattle.session_rules.specs.declared.fixed.Fixed.{Fixed}
-use Rattle.session_rules.specs.States.{State, circuit, is_idle, is_taken_by, is_refused, is_given, plan, has_done}
+use Rattle.session_rules.specs.States.{State, circuit, is_idle, is_taken_by, is_refused, is_answered, is_given, plan, has_done}
 use Rattle.session_rules.specs.Issues.{next_move, instances_after, issued_in, issue, most_moves}
 use Rattle.session_rules.specs.Facts.{is_begun}
 use Rattle.session_rules.specs.Steps.{join, lose, after_loss, deliver, by_stage, accepted, counted, answered_by, input, is_input, with_input, take, next_ready, ready, with_circuit, finish, give_back, step}
@@ -52,7 +52,7 @@ pub data Change (may : ℕ → Type 0) (caller : ℕ) (f : Fixed) (s t : State) 
   loses : (p : ℕ) → has s.present p ≡ true → t ≡ record s { present = without_party s.present p; instances = after_loss p s.instances } → Change may caller f s t
   counts : (id p : ℕ) (i : Instance) → instance s.instances id ≡ Some i → has i.set.bits p ≡ true → is_void i.stage ≡ false → has i.sent.bits p ≡ false → t ≡ after_count i p s → Change may caller f s t
   gives : (c k : ℕ) → has_done Pk s.instances ≡ true → t ≡ record s { given = with_input s.given c k } → Change may caller f s t
-  turns : (c : ℕ) (now : CircuitState) → MayTurn caller (circuit s.circuits c) → is_refused now ≡ false → MayBegin f s c now → t ≡ with_circuit s c now → Change may caller f s t
+  turns : (c : ℕ) (now : CircuitState) → MayTurn caller (circuit s.circuits c) → is_refused now ≡ false → is_answered now ≡ false → MayBegin f s c now → t ≡ with_circuit s c now → Change may caller f s t
   moves : (m : Move) → next_move f s.present s.instances s.circuits ≡ Some m → t ≡ record s { instances = instances_after s.instances m } → Change may caller f s t
 
 found_here : {X : Type 0} (test : X → Bool) (xs : List X) (y x : X) → (find test xs ≡ Some x → test x ≡ true)
@@ -179,7 +179,7 @@ module _ (f : Fixed) (may : ℕ → Type 0) (caller : ℕ) (P : State → Type 0
   ready_goes s (Some c) e h =
       let passes : ready f s c ≡ true = find_passes (ready f s) (range_with_len 0 (length f.plans)) c e in
       let idle : is_idle (circuit s.circuits c) ≡ true = (and_parts _ _ (and_parts _ _ passes).0).0 in
-      one s _ h (turns c (Taken caller) (inl idle) refl (λ _. inl passes) refl)
+      one s _ h (turns c (Taken caller) (inl idle) refl refl (λ _. inl passes) refl)
 
   take_goes : (s : State) → P s → Goes s (take f s caller).1
   unfolding take
@@ -189,13 +189,13 @@ module _ (f : Fixed) (may : ℕ → Type 0) (caller : ℕ) (P : State → Type 0
   unfolding finish
   finish_goes s c h =
       either (Goes s) (is_taken_by caller (circuit s.circuits c)) (reply.Finished, issue f (with_circuit s c Evaluated)) (reply.NotTaken, s)
-      (λ e. changed s _ h (turns c Evaluated (inr e) refl (λ _. inr (begun_before caller (circuit s.circuits c) e)) refl)) (λ _. stays s h)
+      (λ e. changed s _ h (turns c Evaluated (inr e) refl refl (λ _. inr (begun_before caller (circuit s.circuits c) e)) refl)) (λ _. stays s h)
 
   give_back_goes : (s : State) (c : ℕ) → P s → Goes s (give_back s caller c).1
   unfolding give_back
   give_back_goes s c h =
       either (Goes s) (is_taken_by caller (circuit s.circuits c)) (reply.Returned, with_circuit s c Idle) (reply.NotTaken, s)
-      (λ e. one s _ h (turns c Idle (inr e) refl (λ n. cc) refl)) (λ _. stays s h)
+      (λ e. one s _ h (turns c Idle (inr e) refl refl (λ n. cc) refl)) (λ _. stays s h)
 
   -- any call of the caller
   pub step_goes : (s : State) (c : Call) → Joins may c → P s → Goes s (step f s caller c).1

@@ -1,6 +1,6 @@
 -- A circuit that is begun has its inputs and its keys, in every state that calls lead to.
 use Rattle.std.proofs.Common.{◌≡◌, ◌∙◌, sym, ap, subst, refl, ℕ, zero, suc, Bool, true, false, cond, ◌⊎◌, inl, inr, List, [], ◌∷◌, ◌++◌, length, map, get_or, set, slice_index_or, Contains, Some, arith, length-set}
-use Rattle.std.specs.Prelude.{nat_eq, replicate}
+use Rattle.std.specs.Prelude.{nat_eq, not, replicate, ◌||◌}
 use Rattle.std.specs.List.{list_all}
 use Rattle.std.proofs.lemmas.Bool.{both_ways, cases_eq, cases_lt, and_parts, and_from}
 use Rattle.std.proofs.lemmas.List.{get_or-map, get_or-set_same, get_or-set_other, get_or_past, set_past, length-map, length-replicate, get_or-replicate}
@@ -15,13 +15,14 @@ use Rattle.session_rules.specs.declared.call.Entry.{Entry}
 use Rattle.session_rules.specs.declared.state.CircuitState.{CircuitState}
 use Rattle.session_rules.specs.declared.state.CircuitState.TheVariants.{Evaluated, Answered}
 use Rattle.session_rules.specs.declared.moves.Move.{Move}
+use Rattle.session_rules.specs.declared.fixed.Plan.{Plan}
 use Rattle.session_rules.specs.declared.fixed.Fixed.{Fixed}
 use Rattle.session_rules.specs.States.{State, circuit, plan, no_plan, is_refused, is_given, has_done, opening, none_given, opening_of}
 use Rattle.session_rules.specs.Issues.{keys as needed_keys, instances_after, least_present}
-use Rattle.session_rules.specs.Steps.{after_loss, answered_by, with_input, is_given_input, has_keys, ready, with_circuit, step}
+use Rattle.session_rules.specs.Steps.{after_loss, answered_by, with_input, is_given_input, has_turn, has_keys, ready, with_circuit, step}
 use Rattle.session_rules.specs.Histories.{after, state_after}
 use Rattle.session_rules.specs.Facts.{is_begun, Kept, IsLater}
-use Rattle.session_rules.specs.Runs.{CallsGround, HistoriesGround, Grounded, IsWhole}
+use Rattle.session_rules.specs.Grounds.{CallsGround, HistoriesGround, Grounded, IsWhole}
 use Rattle.session_rules.proofs.Changes.{Change, joins, loses, counts, gives, turns, moves, MayTurn, MayBegin, after_count, step_goes}
 use Rattle.session_rules.proofs.Contained.{contains_nil}
 use Rattle.session_rules.proofs.Marks.{numbered_at, instance_within}
@@ -31,7 +32,27 @@ use Rattle.session_rules.proofs.Later.{circuit_set, later_reflexive, later_trans
 use Rattle.session_rules.proofs.Keeps.{Anybody, anybody_joins, change_next, open_is, opening_kept}
 use Rattle.session_rules.proofs.Deliveries.{keys_stay}
 use Rattle.session_rules.proofs.Within.{Was, was_or_new}
-use Rattle.session_rules.proofs.Rounds.{keys_from}
+
+-- ---- the keys of a circuit
+
+-- where each that passes one test passes another
+pub all_from : {X : Type 0} (p q : X → Bool) (xs : List X) → ((x : X) → p x ≡ true → q x ≡ true) → list_all p xs ≡ true → list_all q xs ≡ true
+all_from p q [] h e = refl
+all_from p q (x ∷ xs) h e = let both = and_parts (p x) (list_all p xs) e in and_from (q x) (list_all q xs) (h x both.0) (all_from p q xs h both.1)
+
+or_from : (a b c : Bool) → (b ≡ true → c ≡ true) → (a || b) ≡ true → (a || c) ≡ true
+or_from true b c h e = refl
+or_from false b c h e = h e
+
+pub keys_from : (s t : State) (x : Plan) → (has_done Rlk2 s.instances ≡ true → has_done Rlk2 t.instances ≡ true) → ((g : ℕ) → has_done (Rot g) s.instances ≡ true → has_done (Rot g) t.instances ≡ true) → has_keys s x ≡ true → has_keys t x ≡ true
+unfolding has_keys
+keys_from s t x relin turn e =
+    let both = and_parts (not x.product || has_done Rlk2 s.instances) (list_all (has_turn s) x.turns) e in
+    and_from (not x.product || has_done Rlk2 t.instances) (list_all (has_turn t) x.turns)
+    (or_from (not x.product) (has_done Rlk2 s.instances) (has_done Rlk2 t.instances) relin both.0)
+    (all_from (has_turn s) (has_turn t) x.turns turn both.1)
+
+-- ---- what is asked for
 
 abbrev Asked : Fixed → Instance → Type 0
 Asked f i = (Contains (needed_keys f) i.signature) ⊎ ((c : ℕ) × (i.signature ≡ Dec c))
@@ -234,7 +255,7 @@ ground_then caller f s t g k later (counts id p i found member alive unsent e) =
     let opened = lacking_opened f s.present i p (g.0.sound i m) alive member unsent in
     subst (λ (z : State). Grounded f z) (sym e) (grows_on f s u g.1 (count_grows f s id p i g.0 g.1 found k_ later_ (λ d its. (g.0.decrypts i m).opened d its opened)))
 ground_then caller f s t g k later (gives c j done e) = subst (λ (z : State). Grounded f z) (sym e) (give_grounds f s c j done g.1)
-ground_then caller f s t g k later (turns c now may admitted begins e) = subst (λ (z : State). Grounded f z) (sym e) (turn_grounds f s caller c now may admitted begins g.1)
+ground_then caller f s t g k later (turns c now may admitted unanswered begins e) = subst (λ (z : State). Grounded f z) (sym e) (turn_grounds f s caller c now may admitted begins g.1)
 ground_then caller f s t g k later (moves m next e) =
     let u : State = record s { instances = instances_after s.instances m } in
     let later_ : IsLater s u = subst (λ (z : State). IsLater s z) e later in
@@ -262,7 +283,7 @@ opening_row f c = elim (cases_lt c (length f.plans)) [
   | inr more ↦ get_or_past (map none_given f.plans) c [] (omega (arith, length-map f.plans none_given)) ∙ sym (ap none_given (get_or_past f.plans c no_plan more))
 ]
 
-opening_circuit : (f : Fixed) (c : ℕ) → circuit (opening f).circuits c ≡ (plan f c).opening
+pub opening_circuit : (f : Fixed) (c : ℕ) → circuit (opening f).circuits c ≡ (plan f c).opening
 unfolding opening
 opening_circuit f c = elim (cases_lt c (length f.plans)) [
   | inl less ↦ get_or-map opening_of f.plans c no_plan Answered less

@@ -167,7 +167,7 @@ change_next caller f s t k (joins p _ e) = subst (λ (z : State). Next f s z) (s
 change_next caller f s t k (loses p h e) = subst (λ (z : State). Next f s z) (sym e) (lose_next f s p h k)
 change_next caller f s t k (counts id p i found member alive unsent e) = subst (λ (z : State). Next f s z) (sym e) (count_next f s id p i found member alive unsent k)
 change_next caller f s t k (gives c j done e) = subst (λ (z : State). Next f s z) (sym e) (give_next f s c j k)
-change_next caller f s t k (turns c now may admitted begins e) = subst (λ (z : State). Next f s z) (sym e) (turn_next f s caller c now may admitted k)
+change_next caller f s t k (turns c now may admitted unanswered begins e) = subst (λ (z : State). Next f s z) (sym e) (turn_next f s caller c now may admitted k)
 change_next caller f s t k (moves m next e) = subst (λ (z : State). Next f s z) (sym e) (move_next f s m next k)
 
 pub anybody_joins : (c : Call) → Joins Anybody c

@@ -39,7 +39,7 @@ present_then caller f s t h (joins p last e) = (rw e (with_small s.present p h l
 present_then caller f s t h (loses p there e) = (rw e (without_small s.present p h), tt)
 present_then caller f s t h (counts id p i found member alive unsent e) = (rw e h, tt)
 present_then caller f s t h (gives c k done e) = (rw e h, tt)
-present_then caller f s t h (turns c now may admitted begins e) = (rw e h, tt)
+present_then caller f s t h (turns c now may admitted unanswered begins e) = (rw e h, tt)
 present_then caller f s t h (moves m next e) = (rw e h, tt)
 
 party_joins : (c : Call) → JoinsParty c → Joins IsLast c
@@ -100,7 +100,7 @@ taken_then caller f s t k (counts id p i found member alive unsent same) = λ wh
     let opened = lacking_opened f s.present i p (k.sound i m) alive member unsent in
     rw same (taken_count f s i p who c i.signature (λ d its. (k.decrypts i m).opened d its opened) e (nat_eq (missing p i) 0))
 taken_then caller f s t k (gives c j done same) = λ who c n e. rw same e
-taken_then caller f s t k (turns d now may admitted begins same) = λ who c n e. rw same (taken_turn s.circuits caller d now who c may n e)
+taken_then caller f s t k (turns d now may admitted unanswered begins same) = λ who c n e. rw same (taken_turn s.circuits caller d now who c may n e)
 taken_then caller f s t k (moves m next same) = λ who c n e. rw same e
 
 taken_one : (caller : ℕ) (f : Fixed) (s t : State) → Kept f s → Change Anybody caller f s t → Kept f t × StaysTaken caller s t

@@ -254,7 +254,7 @@ module _ (f : Fixed) (s : State) (caller : ℕ) (k : Kept f s) (rest : IsAtRest 
   unfolding finish
   finish_rests c =
       choose (is_taken_by caller (circuit s.circuits c)) (reply.Finished, issue f (with_circuit s c Evaluated)) (reply.NotTaken, s)
-      (λ e. issues _ (turns c Evaluated (inr e) refl (λ _. inr (begun_before caller (circuit s.circuits c) e)) refl)) (λ _. rest)
+      (λ e. issues _ (turns c Evaluated (inr e) refl refl (λ _. inr (begun_before caller (circuit s.circuits c) e)) refl)) (λ _. rest)
 
   give_back_rests : (c : ℕ) → Rests (give_back s caller c).1
   unfolding give_back

@@ -174,7 +174,7 @@ unfolding after replayed
 replayed_append f s [] more = refl
 replayed_append f s (e ∷ es) more = ap (λ (z : List Entry). record e { reply = (step f s e.caller e.call).0 } ∷ z) (replayed_append f (step f s e.caller e.call).1 es more)
 
-replayed_length : (f : Fixed) (s : State) (es : List Entry) → length (replayed f s es) ≡ length es
+pub replayed_length : (f : Fixed) (s : State) (es : List Entry) → length (replayed f s es) ≡ length es
 unfolding replayed
 replayed_length f s [] = refl
 replayed_length f s (e ∷ es) = ap suc (replayed_length f (step f s e.caller e.call).1 es)

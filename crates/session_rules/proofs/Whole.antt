@@ -14,7 +14,7 @@ use Rattle.session_rules.specs.declared.fixed.Plan.{Plan}
 use Rattle.session_rules.specs.States.{plan, no_plan, is_admitted}
 use Rattle.session_rules.specs.Fixing.{begins_as, rotates, plan_of, admits_turn, is_turned, fixed_from, fixed_of}
 use Rattle.session_rules.specs.Facts.{is_begun}
-use Rattle.session_rules.specs.Runs.{CircuitsAreWhole}
+use Rattle.session_rules.specs.Grounds.{CircuitsAreWhole}
 use Rattle.session_rules.proofs.Contained.{contains_filter, contains_filter_from, any_true, any_from}
 
 -- ---- one circuit

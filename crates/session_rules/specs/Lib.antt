@@ -2,8 +2,9 @@ pub mod States
 pub mod Issues
 pub mod Steps
 pub mod Histories
-pub mod Lanes
+pub mod Tasks
+pub mod Courses
 pub mod Fixing
-pub mod Followed
 pub mod Facts
-pub mod Runs
+pub mod Grounds
+pub mod Completions

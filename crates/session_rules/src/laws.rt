@@ -1,6 +1,7 @@
 //! What follows from the rules, whatever is called: each function states a law, and does nothing.
 ghost use Rattle.session_rules.specs.Facts.{RefusalsChangeNothing, CallsKeep, HistoriesKeep, PartiesArePresent, CallsLeave, HistoriesLeave, KeysStay, FirstRoundsStay, TakenStays, IssueEnds, IssueIsItsMoves, MovesAreFew, CallsLeaveRest, HistoriesLeaveRest, SharesAreWanted, ShapesAreRefused, SharesAreCountedOnce, CompleteOnesLackNone, FewAreIssued, HistoriesIssueFew, LegalOnesGrow, NextState, BeginningsAreLegal, StatesLeadOn, LaterOnesFollow, TakenStaysOn};
-ghost use Rattle.session_rules.specs.Runs.{CallsGo, HonestOnesGoOn, LinesFollow, LanesFollow, AllLanesFollow, JoinsFollow, SettlingFollows, SerialIsHonest, SerialFollows, CallsGround, HistoriesGround, CircuitsAreWhole, SendingGives, SendingGivesInputs, SettlingLosesNobody, SettlingEnds, SettlingAnswers, SerialEnds, SerialAnswers};
+ghost use Rattle.session_rules.specs.Completions.{CompleteOnesAreFull, CompletedOnesStayFull, CompletionsAnswer, AnsweredOnesAreDecrypted, RefusedOnesStay, OthersAreNotRefused};
+ghost use Rattle.session_rules.specs.Grounds.{CallsGround, HistoriesGround, CircuitsAreWhole};
 
 /// A reply that refuses goes with the state as it was.
 pub fn refusals()
@@ -57,24 +58,6 @@ pub fn histories()
     ensures few { HistoriesIssueFew }
 {}
 
-/// What is done alone follows its lane: the log grows by exactly the calls of the lines, one after the
-/// other, and those of settling are rounds.
-pub fn following()
-    ensures calls { CallsGo }
-    ensures lines { LinesFollow }
-    ensures lane { LanesFollow }
-    ensures lanes { AllLanesFollow }
-    ensures joins { JoinsFollow }
-    ensures settling { SettlingFollows }
-    ensures serial { SerialFollows }
-{}
-
-/// Such calls keep a history legal, and the state is where it leads; so the serial history is legal.
-pub fn honesty()
-    ensures go_on { HonestOnesGoOn }
-    ensures serial { SerialIsHonest }
-{}
-
 /// A circuit that is taken, evaluated or answered has its inputs and its keys, and there is a public key
 /// where an input is given: so it is where the circuits begin idle or refused and the rotations are those
 /// of the admitted ones, as in the fixed data that is made of circuits.
@@ -84,19 +67,15 @@ pub fn grounds()
     ensures whole { CircuitsAreWhole }
 {}
 
-/// Who is present and sends gives each share that it owes, and each input once there is a public key.
-pub fn sending()
-    ensures shares { SendingGives }
-    ensures inputs { SendingGivesInputs }
-{}
-
-/// Settling comes to an end: from any state that calls lead to, no instance is opened then and no circuit
-/// is ready; and each admitted circuit is answered, where no circuit was taken, enough parties were
-/// present, and so was the owner of each input that wasn't given.
-pub fn settling()
-    ensures nobody_lost { SettlingLosesNobody }
-    ensures ends { SettlingEnds }
-    ensures answers { SettlingAnswers }
-    ensures serial_ends { SerialEnds }
-    ensures serial_answers { SerialAnswers }
+/// A complete instance has a share of each of its parties, which are as many as act together; so has one
+/// whose last share was counted, whatever becomes of it. A complete decryption has answered its circuit at
+/// that very entry, and each circuit that is answered has one. The circuits that began refused, and no
+/// others, are refused.
+pub fn completions()
+    ensures full { CompleteOnesAreFull }
+    ensures last { CompletedOnesStayFull }
+    ensures answer { CompletionsAnswer }
+    ensures decrypted { AnsweredOnesAreDecrypted }
+    ensures refused { RefusedOnesStay }
+    ensures others { OthersAreNotRefused }
 {}

@@ -13,7 +13,7 @@ use Rattle.session_rules.specs.declared.reply.Reply.TheVariants as reply
 use Rattle.session_rules.specs.States.{State, is_admitted, plan, circuit, opening}
 use Rattle.session_rules.specs.Steps.{join, deliver, input, take, finish, ready}
 use Rattle.session_rules.specs.Facts.{Kept, IsLater, is_begun}
-use Rattle.session_rules.specs.Runs.{Grounded}
+use Rattle.session_rules.specs.Grounds.{Grounded}
 use Rattle.session_spec.specs.Settings.{Setting, Offer, rules, input_count, plain_at, IsSetting, HasValues}
 use Rattle.session_spec.specs.Shares.{sum_rows, key_of}
 use Rattle.session_spec.specs.Outputs.{key_instance, key_in, inputs_of, output_of, polys_of}

@@ -1,5 +1,5 @@
 -- The polynomials that a session keeps, and what its calls make of them, whatever the shares were.
-use Rattle.std.specs.Prelude.{ℕ, ◌-◌, if◌then◌else◌, List, [], ◌∷◌, ◌++◌, map, length, drop, replicate, slice_index_or, slice_set, Option, Some, None}
+use Rattle.std.specs.Prelude.{ℕ, ◌-◌, List, [], ◌∷◌, ◌++◌, map, length, drop, replicate, slice_index_or, slice_set, Option, Some, None}
 use Rattle.std.specs.Option.{option_map}
 use Rattle.ring_spec.specs.Ring.{ring_sum}
 use Rattle.ring_spec.specs.Pairs.{Cipher, Key}
@@ -14,7 +14,7 @@ use Rattle.instance_table.specs.Tables.{after_rows}
 use Rattle.session_rules.specs.declared.reply.Reply.{Reply}
 use Rattle.session_rules.specs.declared.reply.Reply.TheVariants as reply
 use Rattle.session_rules.specs.States.{State}
-use Rattle.session_spec.specs.Settings.{Setting, Offer, nodes_of, gadget_rows}
+use Rattle.session_spec.specs.Settings.{Setting, Offer, gadget_rows}
 use Rattle.session_spec.specs.Outputs.{key_instance}
 use Rattle.circuit_form.specs.Circuits.{owners}
 
