@@ -11,15 +11,16 @@ use Rattle.proto_names.specs.Instances.{lacks, id_of, owed_shares}
 use Rattle.proto_names.specs.declared.signature.Signature.{Signature}
 use Rattle.proto_names.specs.declared.signature.Signature.TheVariants.{Pk, Dec}
 use Rattle.proto_names.specs.declared.instance.Instance.{Instance}
+use Rattle.session_rules.specs.declared.call.Call.TheVariants as call
 use Rattle.session_rules.specs.declared.reply.Reply.TheVariants as reply
 use Rattle.session_rules.specs.declared.state.CircuitState.TheVariants.{Evaluated, Answered}
 use Rattle.session_rules.specs.declared.fixed.Fixed.{Fixed}
 use Rattle.session_rules.specs.States.{State, circuit, plan, no_plan, is_admitted, has_done}
 use Rattle.session_rules.specs.Issues.{keys as needed_keys}
-use Rattle.session_rules.specs.Steps.{lacks_input, place, owed_of, owed_inputs, pending}
-use Rattle.session_rules.specs.Lanes.{Lists, listed}
+use Rattle.session_rules.specs.Steps.{lacks_input, place, owed_of, owed_inputs, pending, step}
+use Rattle.session_rules.specs.Tasks.{Lists, listed}
 use Rattle.session_rules.specs.Facts.{Kept}
-use Rattle.session_rules.specs.Runs.{Grounded}
+use Rattle.session_rules.specs.Grounds.{Grounded}
 use Rattle.session_rules.proofs.Contained.{contains_map, contains_range}
 use Rattle.session_rules.proofs.Marks.{same_is, same_self, opened_lives, lacks_is, numbered_at}
 use Rattle.session_rules.proofs.Weights.{passing_all, range_length}
@@ -92,19 +93,16 @@ few_inputs f s p = at (has_done Pk s.instances)
         subst (λ (z : ℕ). length (owed_of f s p j) ≤ length (plan f z).owners) same_ (few_of f s p j))
     at false = omega arith
 
--- ---- both
+-- ---- what a party is told that it owes
 
-pub record AreFew (f : Fixed) (owed : Lists) : Type 0 where
-  pub ids : length owed.ids ≤ length (signatures f)
-  pub inputs : length owed.inputs ≤ inputs f
-
-pub few_owed : (f : Fixed) (s : State) (p : ℕ) (owed : Lists) → KeptWell f s → listed (pending f s p) ≡ Some owed → AreFew f owed
-unfolding pending
-few_owed f s p owed g e = at (has s.present p) e
+pub few_asked : (f : Fixed) (s : State) (who p : ℕ) (owed : Lists) → KeptWell f s → listed (step f s who (call.Pending p)).0 ≡ Some owed
+    → (length owed.ids ≤ length (signatures f)) × (length owed.inputs ≤ inputs f)
+unfolding step pending
+few_asked f s who p owed g e = at (has s.present p) e
   where
-    at : (b : Bool) → listed (if b then reply.List (owed_shares p s.instances) (owed_inputs f s p) else reply.Absent) ≡ Some owed → AreFew f owed
+    at : (b : Bool) → listed (if b then reply.List (owed_shares p s.instances) (owed_inputs f s p) else reply.Absent) ≡ Some owed → (length owed.ids ≤ length (signatures f)) × (length owed.inputs ≤ inputs f)
     at true e =
         let all : Lists = record { ids = owed_shares p s.instances; inputs = owed_inputs f s p } in
         let same_ : all ≡ owed = cc in
-        subst (λ (z : Lists). AreFew f z) same_ (record { ids = few_shares f s p g.0 g.1; inputs = few_inputs f s p })
+        subst (λ (z : Lists). (length z.ids ≤ length (signatures f)) × (length z.inputs ≤ inputs f)) same_ (few_shares f s p g.0 g.1, few_inputs f s p)
     at false e = cc

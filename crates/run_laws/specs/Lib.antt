@@ -1,2 +1,6 @@
 pub mod Lengths
-pub mod Endings
+pub mod Following
+pub mod Alone
+pub mod Taken
+pub mod Settling
+pub mod Leaving

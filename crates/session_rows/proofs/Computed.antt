@@ -5,7 +5,8 @@ use Rattle.session_rules.specs.States as states
 use Rattle.session_rules.specs.Issues as issues
 use Rattle.session_rules.specs.Steps as steps
 use Rattle.session_rules.specs.Histories as histories
-use Rattle.session_rules.specs.Lanes as lanes
+use Rattle.session_rules.specs.Tasks as tasks
+use Rattle.session_rules.specs.Courses as courses
 use Rattle.session_rules.specs.Fixing as fixing
 use Rattle.circuit_form.specs.Circuits as circuits
 use Rattle.noise_ledger.specs.Bounds as bounds
@@ -28,9 +29,9 @@ unfolding
     steps.deliver steps.is_input steps.input steps.has_keys steps.ready steps.next_ready steps.take steps.finish
     steps.give_back steps.step
     histories.after histories.replayed
-    lanes.called lanes.shared lanes.shared_all lanes.given_all lanes.sent lanes.held lanes.gave lanes.worked
-    lanes.quit lanes.did lanes.did_all lanes.served lanes.served_all lanes.sent_by_all lanes.worked_off lanes.round
-    lanes.is_settled lanes.rounds lanes.settled lanes.joined_all lanes.serial
+    tasks.dropped tasks.at_call tasks.owing tasks.delivering tasks.evaluating tasks.returning tasks.exhausting
+    tasks.next_call tasks.after_reply tasks.left tasks.run
+    courses.serial_tasks courses.is_settled courses.round_tasks courses.settling_run courses.serial_run
     sets.has sets.members_to sets.members
     instances.instance instances.lives instances.is_done instances.fresh instances.lacks instances.missing
     instances.with_share instances.after_share instances.after_void instances.after_lost instances.owed_shares

@@ -13,7 +13,7 @@ use Rattle.session_rules.specs.States.{seen, plan, circuit, is_given}
 use Rattle.session_rules.specs.Issues.{keys}
 use Rattle.session_rules.specs.Steps.{is_input}
 use Rattle.session_rules.specs.Facts.{is_begun}
-use Rattle.session_rules.specs.Runs.{Grounded, IsWhole, NoneOpened, GaveAll, CanSettle}
+use Rattle.session_rules.specs.Grounds.{Grounded, IsWhole, NoneOpened, GaveAll, CanSettle}
 use Rattle.session_rules.proofs.Grounds.{state_grounds}
 use Rattle.session_rules.proofs.Contained.{contains_nil, contains_cases}
 use Rattle.session_rows.proofs.Words.{turned_by, session, any_two, none, one_two, issued}

@@ -17,7 +17,7 @@ use Rattle.session_rules.specs.declared.fixed.Plan.{Plan}
 use Rattle.session_rules.specs.declared.fixed.Fixed.{Fixed}
 use Rattle.session_rules.specs.States.{State}
 use Rattle.session_rules.specs.Histories.{state_after, IsLegal}
-use Rattle.session_rules.specs.Lanes.{serial}
+use Rattle.session_rules.specs.Courses.{serial_run}
 
 -- ---- scripts
 
@@ -92,7 +92,7 @@ all_three = 1 ∷ 2 ∷ 3 ∷ []
 -- the opening state, each call gets the reply that stands beside it
 abbrev pub Comes : Fixed → List ℕ → List (List Line) → List Entry → State → Type 0
 Comes f present lanes es s =
-    ((serial f present lanes).log ≡ es) × ((serial f present lanes).state ≡ s) × IsLegal f es
+    (serial_run 100 f present lanes ≡ es) × (state_after f es ≡ s) × IsLegal f es
 
 -- a list of calls with their replies is a legal history, and leads to this state
 abbrev pub Plays : Fixed → List Entry → State → Type 0
