@@ -1,15 +1,15 @@
 -- What is handed out where the polynomials are honest, and that it fits.
-use Rattle.std.proofs.Common.{◌≡◌, ◌∙◌, sym, ap, subst, refl, ℕ, ◌+◌, ◌-◌, ◌<◌, Bool, true, false, not, inl, inr, List, [], length, map, get_or, Contains, Option, Some, None, arith}
-use Rattle.std.specs.Prelude.{◌⊎◌, All, if◌then◌else◌, IfSome, IsSome, IsTrue}
+use Rattle.std.proofs.Common.{◌≡◌, ◌∙◌, sym, ap, subst, refl, ℕ, Bool, true, false, not, inl, inr, List, [], length, map, get_or, Contains, Option, Some, None, arith, ◌+◌, ◌-◌, ◌*◌, ◌<◌}
+use Rattle.std.specs.Prelude.{IfSome, IsSome, IsTrue}
 use Rattle.std.specs.List.{range_with_len}
 use Rattle.std.specs.declared.alloc.Global.{Global}
 use Rattle.std.specs.declared.sync.Arc.{Arc}
 use Rattle.std.specs.Option.{option_map}
 use Rattle.std.proofs.lemmas.Bool.{not-true}
 use Rattle.std.proofs.lemmas.List.Elements.{All-contains}
-use Rattle.ring_spec.specs.Pairs.{Cipher, Key}
+use Rattle.ring_spec.specs.Pairs.{Key}
 use Rattle.param_set.specs.declared.params.Params.{Params}
-use Rattle.proto_names.specs.Names.{is_void}
+use Rattle.proto_names.specs.Names.{is_void, rows_of}
 use Rattle.proto_names.specs.Instances.{instance}
 use Rattle.proto_names.specs.declared.signature.Signature.{Signature}
 use Rattle.proto_names.specs.declared.signature.Signature.TheVariants.{Pk, Dec}
@@ -17,7 +17,7 @@ use Rattle.proto_names.specs.declared.instance.Instance.{Instance}
 use Rattle.proto_names.specs.declared.instance.Stage.{Stage}
 use Rattle.proto_names.specs.declared.instance.Stage.TheVariants.{Opened, Complete, Void}
 use Rattle.circuit_runner.specs.declared.job.Job.{Job}
-use Rattle.instance_table.specs.Tables.{stands as is_standing}
+use Rattle.instance_table.specs.Tables.{stands as is_standing, row_count, row_counts}
 use Rattle.instance_table.specs.declared.brief.Brief.{Brief}
 use Rattle.party_roll.specs.Briefs.{is_made, polys_wanted, IsBrief}
 use Rattle.session_rules.specs.declared.call.Entry.{Entry}
@@ -26,26 +26,34 @@ use Rattle.session_rules.specs.declared.reply.Reply.TheVariants as reply
 use Rattle.session_rules.specs.declared.fixed.Fixed.{Fixed}
 use Rattle.session_rules.specs.declared.state.CircuitState.TheVariants.{Taken}
 use Rattle.session_rules.specs.States.{State}
-use Rattle.session_rules.specs.Issues.{keys}
 use Rattle.session_rules.specs.Steps as steps
 use Rattle.session_rules.specs.Facts.{IsLive}
 use Rattle.session_rules.specs.Histories.{state_after}
-use Rattle.session_rules.specs.Runs.{Grounded}
 use Rattle.session_rules.proofs.Contained.{find_some, range_within}
-use Rattle.session_rules.proofs.Marks.{instance_within}
+use Rattle.session_rules.proofs.Marks.{instance_within, numbered_at}
 use Rattle.session_spec.specs.Settings.{Setting, rules}
 use Rattle.session_spec.specs.Outputs.{key_instance, key_in, inputs_of, polys_of, sums_of}
 use Rattle.session_spec.specs.Stores.{Store, cipher_or, held_polys, held_sums, held_key, key_by}
 use Rattle.session_spec.specs.Laws.{Stands}
-use Rattle.session_laws.proofs.Plans.{rules_number, instance_number}
+use Rattle.session_rules.proofs.Marks.{instance_number}
+use Rattle.session_laws.proofs.Plans.{rules_number}
 use Rattle.session_laws.proofs.Inputs.{ready_ones_have_inputs}
 use Rattle.session_laws.proofs.HeldKeys.{held_keys_are_keys}
 use Rattle.session_state.specs.declared.standing.Standing.{Standing}
 use Rattle.session_state.specs.Parts.{polys_told, IsPk}
 use Rattle.session_state.specs.Shared.{shared_if}
 use Rattle.session_state.specs.Handed.{IsBriefOf, IsJobFor, brief_reply}
-use Rattle.session_state.specs.Standings.{rules_of, state, store}
-use Rattle.session_core.proofs.Grown.{grounded}
+use Rattle.session_state.specs.Standings.{rules_of, state, store, setting}
+use Rattle.session_core.proofs.Grown.{grounded, kept}
+use Rattle.std.proofs.lemmas.List.{get_or-map, length-map}
+use Rattle.ring_spec.specs.Ring.{IsPoly}
+use Rattle.draw_spec.specs.Streams.{instance_stream}
+use Rattle.bfv_spec.specs.Shares.{pk_from}
+use Rattle.bfv_laws.proofs.Draws.{uniform_poly_is}
+use Rattle.bfv_core.specs.Fits.{KeyFits}
+use Rattle.param_set.specs.Numbers.{digit_rows}
+use Rattle.instance_table.specs.declared.table.Table.{Table}
+use Rattle.session_laws.proofs.Keys.{key_found}
 
 -- ---- the public key
 
@@ -149,11 +157,11 @@ polys_of_if p w seeds s h id said (Some a) y replies goes told =
     let b = has_brief s id a.value (sym replies ∙ goes) in
     brief_honest p w seeds s h id b.instance_ a.value y b.found b.lives (told b.instance_ b.found)
 
-pub sums_if : {X : Type 0} (p : Params) (w : Setting) (seeds : List (List ℕ)) (s : State) (h : Store) (id : ℕ) (read : X → List (List ℕ)) (handed : Option X) → Stands p w seeds s h
+pub sums_if : {X T : Type 0} (p : Params) (w : Setting) (seeds : List (List ℕ)) (s : State) (h : Store) (id : ℕ) (read : X → List (List ℕ)) (handed : Option X) → (T → Stands p w seeds s h)
     → IfSome handed (λ x. read x ≡ held_sums h id) → (IsSome handed → IsTrue (is_standing s.instances id))
-    → IfSome handed (λ x. (i : Instance) → instance s.instances id ≡ Some i → read x ≡ sums_of w seeds (key_in w seeds s.instances) i)
+    → IfSome handed (λ x. T → (i : Instance) → instance s.instances id ≡ Some i → read x ≡ sums_of w seeds (key_in w seeds s.instances) i)
 sums_if p w seeds s h id read None y value stands = tt
-sums_if p w seeds s h id read (Some x) y value stands = λ i found. value ∙ y.honest.sums id i found (standing_lives s.instances id i found (stands refl))
+sums_if p w seeds s h id read (Some x) y value stands = λ t i found. value ∙ (y t).honest.sums id i found (standing_lives s.instances id i found (stands refl))
 
 -- ---- the inputs of a circuit
 
@@ -181,3 +189,42 @@ pub inputs_if : (p : Params) (w : Setting) (seeds : List (List ℕ)) (s : State)
     → IfSome job (λ j. j.inputs ≡ inputs_of w seeds (key_in w seeds s.instances) j.number)
 inputs_if p w seeds s h who None y goes is = tt
 inputs_if p w seeds s h who (Some j) y goes is = is.inputs ∙ taken_inputs p w seeds s h j.number y (taken_ready (rules w) s who j.number goes)
+
+-- ---- the public key fits, whatever the shares were
+
+one_row : (l : ℕ) → rows_of Pk l ≡ 1
+unfolding rows_of
+one_row l = refl
+
+-- the sums of an instance of the public key are one polynomial
+first_sum : (t : Table) (k : ℕ) (i : Instance) → k < length t.instances.items → get_or t.instances.items k i ≡ i → i.signature ≡ Pk
+    → IsPoly t.params.q t.params.n (get_or (get_or t.sums.items k []) 0 [])
+first_sum t k i l here pk =
+    let many : length t.sums.items ≡ length t.instances.items =
+    sym (length-map t.sums.items row_count) ∙ ap length t.rows ∙ length-map t.instances.items (row_counts t.params) in
+    let rows : length (get_or t.sums.items k []) ≡ row_counts t.params i =
+    sym (get_or-map row_count t.sums.items k [] 0 (omega arith)) ∙ ap (λ (z : List ℕ). get_or z k 0) t.rows
+    ∙ get_or-map (row_counts t.params) t.instances.items k i 0 l ∙ ap (row_counts t.params) here in
+    let one : row_counts t.params i ≡ 1 = rw pk (one_row (digit_rows t.params.q t.params.digit_bits)) in
+    t.fits k [] (omega arith) 0 [] (omega arith)
+
+pub key_fits : (st : Standing) (es : List Entry) (key : Key) → state st ≡ state_after (rules_of st) es → Some key ≡ held_key (setting st) (store st) (state st).instances
+    → KeyFits st.params.q st.params.n key
+unfolding pk_from
+key_fits st es key e made =
+    let m = has_made (setting st) (store st) (state st).instances key made in
+    let i = m.instance in
+    let found = key_found (state st).instances i m.found in
+    let at : i.id ≡ found.0.0 + 1 = numbered_at (state st).instances i (kept st es e).numbered found.0 in
+    let place : i.id - 1 ≡ found.0.0 = omega arith in
+    let sum : IsPoly st.params.q st.params.n (get_or (held_sums (store st) i.id) 0 []) =
+    rw place (subst (λ (p : Params). IsPoly p.q p.n (get_or (get_or st.table.sums.items found.0.0 []) 0 [])) st.table_is (first_sum st.table found.0.0 i found.0.1 found.0.2 found.1.signature)) in
+    subst (λ (z : Key). KeyFits st.params.q st.params.n z) (sym m.made) (record {
+      p0 = sum;
+      p1 = uniform_poly_is st.params.q st.params.n st.public (instance_stream i.id) (4 * st.params.n * 0) (omega (arith, st.params.modulus.0));
+    })
+
+pub fits_if : (st : Standing) (es : List Entry) (key : Option (Arc Key Global)) → state st ≡ state_after (rules_of st) es → shared_if key ≡ held_key (setting st) (store st) (state st).instances
+    → IfSome key (λ k. KeyFits st.params.q st.params.n k.value)
+fits_if st es None e made = tt
+fits_if st es (Some key) e made = key_fits st es key.value e made

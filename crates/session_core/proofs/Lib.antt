@@ -1,7 +1,5 @@
+pub mod Members
 pub mod Grown
-pub mod Kept
+pub mod Going
 pub mod Brought
 pub mod Handed
-pub mod Fits
-pub mod Said
-pub mod Members

@@ -1,5 +1,5 @@
 -- Those that are present are parties of the session, where those that join are.
-use Rattle.std.proofs.Common.{◌≡◌, ◌∙◌, sym, ap, subst, ℕ, ◌-◌, ◌^◌, ◌<◌, ◌≤◌, true, nat_eq, nat_le, ◌&&◌, ◌⊎◌, inl, inr, List, min, bit_and, w32, arith}
+use Rattle.std.proofs.Common.{◌≡◌, ◌∙◌, sym, subst, ℕ, ◌-◌, ◌^◌, ◌<◌, ◌≤◌, true, nat_eq, nat_le, ◌&&◌, inl, inr, min, bit_and, w32, arith}
 use Rattle.std.specs.Prelude.{⊤}
 use Rattle.std.specs.Int.{bit_at, bit_not}
 use Rattle.std.proofs.lemmas.Bool.{and_parts, and_from, eqb-true, eq-eqb}
@@ -12,16 +12,7 @@ use Rattle.session_rules.specs.States.{State, opening}
 use Rattle.session_rules.specs.Steps.{step}
 use Rattle.session_rules.proofs.Changes.{Change, joins, loses, counts, gives, turns, moves, Joins, step_goes}
 use Rattle.session_rules.proofs.PartySets.{with_cases, has_nobody}
-use Rattle.session_rules.specs.Histories.{state_after}
-use Rattle.session_rules.specs.declared.call.Entry.{Entry}
-use Rattle.param_set.specs.declared.params.Params.{Params}
-use Rattle.session_state.specs.declared.standing.Standing.{Standing}
-use Rattle.session_state.specs.Standings.{rules_of, state}
-use Rattle.session_core.specs.Sessions.{ArePresent, said}
-
--- one of n parties
-abbrev pub Among : ℕ → ℕ → Type 0
-Among n p = (1 ≤ p) × (p ≤ n)
+use Rattle.session_core.specs.Sessions.{IsParty, ArePresent}
 
 -- a set without a party has none that the set has not
 without_shrinks : (set p q : ℕ) → has (without_party set p) q ≡ true → has set q ≡ true
@@ -36,7 +27,7 @@ without_shrinks set p q h =
     only : (x y : ℕ) → x < 2 → min x y ≡ 1 → x ≡ 1
     only x y l e = omega arith
 
-present_then : (n caller : ℕ) (f : Fixed) (s t : State) → ArePresent n s → Change (Among n) caller f s t → ArePresent n t × ⊤
+present_then : (n caller : ℕ) (f : Fixed) (s t : State) → ArePresent n s → Change (IsParty n) caller f s t → ArePresent n t × ⊤
 present_then n caller f s t h (joins p among e) = (
   rw e (λ q in_. elim (with_cases s.present p q among.0 in_) [
     | inl same ↦ subst (λ (z : ℕ). z ≤ n) (sym same) among.1
@@ -47,13 +38,13 @@ present_then n caller f s t h (joins p among e) = (
 present_then n caller f s t h (loses p there e) = (rw e (λ q in_. h q (without_shrinks s.present p q in_)), tt)
 present_then n caller f s t h (counts id p i found member alive unsent e) = (rw e h, tt)
 present_then n caller f s t h (gives c k done e) = (rw e h, tt)
-present_then n caller f s t h (turns c now may admitted begins e) = (rw e h, tt)
+present_then n caller f s t h (turns c now may admitted unanswered begins e) = (rw e h, tt)
 present_then n caller f s t h (moves m next e) = (rw e h, tt)
 
 -- so they are after a call by which one of the parties joins, or none
-still_present : (n : ℕ) (f : Fixed) (s t : State) (caller : ℕ) (c : Call) → Joins (Among n) c → ArePresent n s → t ≡ (step f s caller c).1 → ArePresent n t
+pub still_present : (n : ℕ) (f : Fixed) (s t : State) (caller : ℕ) (c : Call) → Joins (IsParty n) c → ArePresent n s → t ≡ (step f s caller c).1 → ArePresent n t
 still_present n f s t caller c among h e =
-    subst (λ (z : State). ArePresent n z) (sym e) (step_goes f (Among n) caller (ArePresent n) (λ x y. ⊤) (λ x. tt) (λ x y z a b. tt) (present_then n caller f) s c among h).0
+    subst (λ (z : State). ArePresent n z) (sym e) (step_goes f (IsParty n) caller (ArePresent n) (λ x y. ⊤) (λ x. tt) (λ x y z a b. tt) (present_then n caller f) s c among h).0
 
 -- at first nobody is
 pub nobody_present : (n : ℕ) (f : Fixed) (s : State) → s ≡ opening f → ArePresent n s
@@ -61,11 +52,3 @@ unfolding opening
 nobody_present n f s e p in_ =
     let none : has 0 p ≡ true = rw e at in_ in
     absurd (let no = has_nobody p in cc)
-
--- so it is in a session, behind a call
-pub parties_then : (st now : Standing) (es : List Entry) (caller : ℕ) (c : Call) → Joins (Among st.params.parties) c → ArePresent st.params.parties (state st)
-    → state st ≡ state_after (rules_of st) es → now.params ≡ st.params → state now ≡ (said st es caller c).1 → ArePresent now.params.parties (state now)
-parties_then st now es caller c among h led same goes =
-    let before : ArePresent st.params.parties (state_after (rules_of st) es) = subst (λ (s : State). ArePresent st.params.parties s) led h in
-    subst (λ (p : Params). ArePresent p.parties (state now)) (sym same)
-    (still_present st.params.parties (rules_of st) (state_after (rules_of st) es) (state now) caller c among before goes)

@@ -1,4 +1,4 @@
-ghost use Rattle.std.specs.Prelude.{◌≡◌, false, IfOk};
+ghost use Rattle.std.specs.Prelude.{◌≡◌, true, false, IfOk, OnErr};
 ghost use Rattle.session_state.specs.Handed.{is_list};
 
 use param_set::{Ids, Slots};
@@ -41,9 +41,10 @@ pub(crate) fn plain_copy(reply: &Reply) -> Reply
     }
 }
 
-/// A reply again.
+/// A reply again: only lists take memory.
 pub(crate) fn copy(alloc: Global, reply: &Reply) -> Result<Reply, AllocError>
-    ensures { IfOk result (λ r. r ≡ reply.now) }
+    ensures same { IfOk result (λ r. r ≡ reply.now) }
+    ensures free { OnErr result (is_list reply.now ≡ true) }
 {
     match reply {
         Reply::List { ids, inputs } => Ok(Reply::List {

@@ -9,14 +9,13 @@
 #![tactic(auto)]
 
 mod asking;
+mod bringing;
 mod entries;
-mod giving;
 mod joining;
 mod logging;
 mod opening;
 mod readers;
 mod session;
-mod sharing;
 mod stop;
 mod working;
 

@@ -1,17 +1,12 @@
-ghost use Rattle.std.specs.Prelude.{◌≡◌, ◌↔◌, ◌<◌, true, length, option_copied, Some, IsSome, IsTrue, IfSome};
+ghost use Rattle.std.specs.Prelude.{◌≡◌, ◌↔◌, length, option_copied, Some, IsSome, IsTrue, IfSome};
 ghost use Rattle.std.specs.List.{slice_get};
 ghost use Rattle.proto_names.specs.Instances.{instance};
-ghost use Rattle.proto_names.specs.declared.instance.Instance.{Instance};
 ghost use Rattle.instance_table.specs.Tables.{stands};
-ghost use Rattle.party_roll.specs.Seeds.{seeds_told};
-ghost use Rattle.session_rules.specs.declared.state.CircuitState.TheVariants.{Answered};
-ghost use Rattle.session_rules.specs.States.{circuit as circuit_at};
 ghost use Rattle.session_rules.specs.Steps.{ready};
-ghost use Rattle.session_rules.specs.Facts.{is_settled};
-ghost use Rattle.session_spec.specs.Settings.{plain_at};
-ghost use Rattle.session_spec.specs.Outputs.{key_in, output_of, sums_of};
 ghost use Rattle.session_spec.specs.Stores.{held_sums, held_output, held_answer};
-ghost use Rattle.session_state.specs.Standings.{setting, rules_of, state, store};
+ghost use Rattle.session_state.specs.Standings.{rules_of};
+ghost use Rattle.session_core.specs.Handing.{IsSettledAt, IsAnsweredAt, AreHonestSums, IsHonestOutput, IsPlainAnswer};
+ghost use Rattle.session_core.specs.Calls.{At, state_of, store_of};
 
 use crate::Session;
 use instance_table::Instance;
@@ -54,14 +49,14 @@ impl<R: Roll> Session<R> {
 
     /// The parties that are present.
     pub fn present(&self) -> PartySet
-        ensures { result.bits ≡ (state self.now.standing).present }
+        ensures { result.bits ≡ (state_of self.now).present }
     {
         self.standing.present()
     }
 
     /// How far a circuit has come; none exactly where there is no such circuit.
     pub fn state(&self, circuit: u32) -> Option<CircuitState>
-        ensures { result ≡ slice_get (state self.now.standing).circuits circuit }
+        ensures { result ≡ slice_get (state_of self.now).circuits circuit }
     {
         self.standing
             .circuit_states()
@@ -71,14 +66,14 @@ impl<R: Roll> Session<R> {
 
     /// How far each circuit has come.
     pub fn circuit_states(&self) -> &[CircuitState]
-        ensures { result.now ≡ (state self.now.standing).circuits }
+        ensures { result.now ≡ (state_of self.now).circuits }
     {
         self.standing.circuit_states()
     }
 
     /// Whether a circuit may be evaluated.
     pub fn ready(&self, circuit: u32) -> bool
-        ensures { result ≡ ready (rules_of self.now.standing) (state self.now.standing) circuit }
+        ensures { result ≡ ready (rules_of self.now.standing) (state_of self.now) circuit }
     {
         self.standing.is_ready(circuit)
     }
@@ -86,7 +81,7 @@ impl<R: Roll> Session<R> {
     /// The instance with a number; none exactly where that many weren't issued.
     #[tactic(auto, unfolding(proto_names::specs::Instances::instance))]
     pub fn instance(&self, id: u32) -> Option<&Instance>
-        ensures { option_copied result ≡ instance (state self.now.standing).instances id }
+        ensures { option_copied result ≡ instance (state_of self.now).instances id }
     {
         if id == 0 {
             return None;
@@ -96,14 +91,14 @@ impl<R: Roll> Session<R> {
 
     /// All instances, in the order of their numbers.
     pub fn instances(&self) -> &[Instance]
-        ensures { result.now ≡ (state self.now.standing).instances }
+        ensures { result.now ≡ (state_of self.now).instances }
     {
         self.standing.instances()
     }
 
     /// How many instances were issued.
     pub fn issued(&self) -> usize
-        ensures { result ≡ length (state self.now.standing).instances }
+        ensures { result ≡ length (state_of self.now).instances }
     {
         self.standing.instances().len()
     }
@@ -111,9 +106,9 @@ impl<R: Roll> Session<R> {
     /// The sums of an instance; none exactly where it isn't issued, or is void. Where the roll tells, they are of one
     /// honest share of each party that has sent.
     pub fn sums(&self, id: u32) -> Option<&Polys>
-        ensures value { IfSome result (λ sums. sums.now ≡ held_sums (store self.now.standing) id) }
-        ensures while_it_stands { IsSome result ↔ IsTrue (stands (state self.now.standing).instances id) }
-        ensures honest { R.tells self.now.roll ≡ true → IfSome result (λ sums. (i : Instance) → instance (state self.now.standing).instances id ≡ Some i → sums.now ≡ sums_of (setting self.now.standing) (seeds_told (R.seed self.now.roll) self.now.standing.params.parties) (key_in (setting self.now.standing) (seeds_told (R.seed self.now.roll) self.now.standing.params.parties) (state self.now.standing).instances) i) }
+        ensures value { IfSome result (λ sums. sums.now ≡ held_sums (store_of self.now) id) }
+        ensures while_it_stands { IsSome result ↔ IsTrue (stands (state_of self.now).instances id) }
+        ensures honest { IfSome result (λ sums. At (AreHonestSums id) self.now sums.now) }
     {
         self.standing.sums(id)
     }
@@ -121,18 +116,18 @@ impl<R: Roll> Session<R> {
     /// The output of a circuit; none exactly where it is neither evaluated nor answered. Where the roll tells, it is
     /// the ciphertext that the circuit's nodes make of the encryptions of its values.
     pub fn output(&self, circuit: u32) -> Option<&Ciphertext>
-        ensures value { IfSome result (λ output. held_output (store self.now.standing) circuit ≡ Some output.now) }
-        ensures settled { IsSome result ↔ ((circuit < length (state self.now.standing).circuits) × IsTrue (is_settled (circuit_at (state self.now.standing).circuits circuit))) }
-        ensures honest { R.tells self.now.roll ≡ true → IfSome result (λ output. output.now ≡ output_of (setting self.now.standing) (seeds_told (R.seed self.now.roll) self.now.standing.params.parties) (key_in (setting self.now.standing) (seeds_told (R.seed self.now.roll) self.now.standing.params.parties) (state self.now.standing).instances) circuit) }
+        ensures value { IfSome result (λ output. held_output (store_of self.now) circuit ≡ Some output.now) }
+        ensures settled { IsSome result ↔ IsSettledAt (state_of self.now) circuit }
+        ensures honest { IfSome result (λ output. At (IsHonestOutput circuit) self.now output.now) }
     {
         self.standing.output(circuit)
     }
 
     /// The value of a circuit; none exactly where it isn't answered. Where the roll tells, it is the plain value.
     pub fn answer(&self, circuit: u32) -> Option<&Plain>
-        ensures value { IfSome result (λ answer. held_answer (store self.now.standing) circuit ≡ Some answer.now) }
-        ensures answered { IsSome result ↔ ((circuit < length (state self.now.standing).circuits) × (circuit_at (state self.now.standing).circuits circuit ≡ Answered)) }
-        ensures plain { R.tells self.now.roll ≡ true → IfSome result (λ answer. answer.now ≡ plain_at (setting self.now.standing) circuit) }
+        ensures value { IfSome result (λ answer. held_answer (store_of self.now) circuit ≡ Some answer.now) }
+        ensures answered { IsSome result ↔ IsAnsweredAt (state_of self.now) circuit }
+        ensures plain { IfSome result (λ answer. At (IsPlainAnswer circuit) self.now answer.now) }
     {
         self.standing.answer(circuit)
     }

@@ -1,8 +1,7 @@
-ghost use Rattle.std.specs.Prelude.{◌≡◌, ◌≤◌, true, length};
+ghost use Rattle.std.specs.Prelude.{◌≡◌};
 ghost use Rattle.session_rules.specs.Histories.{IsLegal, state_after};
 ghost use Rattle.session_state.specs.Standings.{rules_of, state};
-ghost use Rattle.session_core.specs.Sessions.{ArePresent, HasHonest};
-ghost use Rattle.party_roll.specs.Seeds.{seeds_told};
+ghost use Rattle.session_core.specs.Sessions.{IsSoundBy};
 
 use party_roll::Roll;
 use session_rules::Entry;
@@ -19,10 +18,7 @@ pub struct Session<R: Roll> {
     pub(crate) standing: Standing,
     pub(crate) log: Vec<Entry>,
     pub ghost public_is: { standing.public ≡ R.public roll },
-    pub ghost some_calls: { (1 ≤ max_calls) × (max_calls ≤ 8388608) },
-    pub ghost few: { length log.items ≤ max_calls },
     pub ghost legal: { IsLegal (rules_of standing) log.items },
     pub ghost state_is: { state standing ≡ state_after (rules_of standing) log.items },
-    pub ghost parties: { ArePresent standing.params.parties (state standing) },
-    pub ghost honest: { R.tells roll ≡ true → HasHonest (seeds_told (R.seed roll) standing.params.parties) standing },
+    pub ghost sound: { IsSoundBy (R.tells roll) (R.seed roll) max_calls standing log.items },
 }

@@ -15,7 +15,7 @@ use Rattle.session_rules.specs.declared.state.CircuitState.TheVariants.{Evaluate
 use Rattle.session_rules.specs.States.{State, circuit}
 use Rattle.session_rules.specs.Issues.{keys}
 use Rattle.session_rules.specs.Steps.{answered_by}
-use Rattle.session_rules.specs.Runs.{Grounded}
+use Rattle.session_rules.specs.Grounds.{Grounded}
 use Rattle.session_rules.proofs.Shares.{decides_dec, answered_its, answered_other}
 use Rattle.session_spec.specs.Settings.{Setting}
 use Rattle.session_spec.specs.Stores.{Store, with_rows, with_answer}

@@ -16,7 +16,7 @@ use Rattle.session_rules.specs.States.{State, plan, is_given, is_admitted, has_d
 use Rattle.session_rules.specs.Steps.{is_input, input}
 use Rattle.session_rules.specs.Steps as steps
 use Rattle.session_rules.specs.Facts.{Kept, accepts}
-use Rattle.session_rules.specs.Runs.{Grounded}
+use Rattle.session_rules.specs.Grounds.{Grounded}
 use Rattle.session_rules.proofs.Inputs.{input_circuit}
 use Rattle.session_spec.specs.Settings.{Setting, rules, input_count}
 use Rattle.session_spec.specs.Stores.{Store, held_input, held_key, with_input, given_by}

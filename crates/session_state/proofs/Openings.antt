@@ -23,7 +23,7 @@ use Rattle.session_rules.specs.declared.fixed.Fixed.{Fixed}
 use Rattle.session_rules.specs.declared.state.CircuitState.{CircuitState}
 use Rattle.session_rules.specs.declared.state.CircuitState.TheVariants.{Refused, Idle, Taken, Evaluated, Answered}
 use Rattle.session_rules.specs.Facts.{Kept, is_begun, is_settled}
-use Rattle.session_rules.specs.Runs.{Grounded}
+use Rattle.session_rules.specs.Grounds.{Grounded}
 use Rattle.session_rules.proofs.Grounds.{opening_grounds}
 use Rattle.session_rules.proofs.Whole.{circuits_are_whole}
 use Rattle.session_rules.specs.States.{State, seen, circuit, plan, no_plan, is_admitted, is_given, none_given, opening_of, opening}

@@ -21,7 +21,7 @@ use Rattle.session_rules.specs.declared.state.CircuitState.TheVariants.{Taken, A
 use Rattle.session_rules.specs.States.{State, seen, plan, circuit, is_given, is_idle}
 use Rattle.session_rules.specs.Steps.{take, next_ready, ready, has_keys, is_given_input, with_circuit}
 use Rattle.session_rules.specs.Facts.{is_settled}
-use Rattle.session_rules.specs.Runs.{Grounded}
+use Rattle.session_rules.specs.Grounds.{Grounded}
 use Rattle.session_rules.proofs.Contained.{find_some, range_within}
 use Rattle.session_spec.specs.Settings.{Setting, Offer, rules, nodes_at, no_offer, input_count, Keeps, IsSetting}
 use Rattle.session_spec.specs.Stores.{Store, held_input, cipher_or}

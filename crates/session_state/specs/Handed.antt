@@ -1,5 +1,5 @@
 -- What is handed out: briefs and jobs.
-use Rattle.std.specs.Prelude.{◌≡◌, ℕ, Bool, true, false, List, [], map, length, slice_index_or, All, None}
+use Rattle.std.specs.Prelude.{◌≡◌, ◌⊎◌, ℕ, Bool, true, false, List, [], map, length, slice_index_or, All, None, IsSome}
 use Rattle.bfv_core.specs.Fits.{CipherFits}
 use Rattle.param_set.specs.declared.params.Params.{Params}
 use Rattle.circuit_form.specs.Circuits.{first_fault, owners}
@@ -9,8 +9,9 @@ use Rattle.proto_names.specs.declared.instance.Instance.{Instance}
 use Rattle.instance_table.specs.declared.brief.Brief.{Brief}
 use Rattle.session_rules.specs.declared.reply.Reply.{Reply}
 use Rattle.session_rules.specs.declared.reply.Reply.TheVariants as reply
+use Rattle.session_rules.specs.States.{State}
 use Rattle.session_spec.specs.Settings.{Setting, nodes_at}
-use Rattle.session_spec.specs.Stores.{Store, held_polys, cipher_or}
+use Rattle.session_spec.specs.Stores.{Store, held_polys, held_key, cipher_or}
 use Rattle.session_state.specs.Parts.{AreTold}
 
 -- the brief of an instance: what it is, and the polynomials that its parties are told
@@ -39,7 +40,16 @@ pub record CanEvaluate (p : Params) (job : Job) : Type 0 where
   pub count : length job.inputs ≡ length (owners job.circuit.value)
   pub inputs : All (CipherFits p.q p.n) job.inputs
 
--- whether a reply is the one with lists, which alone takes memory
+-- whether a reply is the one with lists
 abbrev pub is_list : Reply → Bool
 is_list (reply.List ids inputs) = true
 is_list other = false
+
+-- whether it is the one with a brief
+abbrev pub is_brief : Reply → Bool
+is_brief (reply.Brief signature set) = true
+is_brief other = false
+
+-- what is handed out at a party's asking takes memory: its lists, or a pointer to the public key
+abbrev pub HandsOut : Setting → Store → State → Reply → Type 0
+HandsOut w h s said = (is_list said ≡ true) ⊎ IsSome (held_key w h s.instances)

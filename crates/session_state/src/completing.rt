@@ -11,7 +11,7 @@ ghost use Rattle.session_rules.specs.States.{circuit};
 ghost use Rattle.session_rules.specs.Issues.{most_moves, issue};
 ghost use Rattle.session_rules.specs.Steps.{answered_by};
 ghost use Rattle.session_rules.specs.Facts.{Kept};
-ghost use Rattle.session_rules.specs.Runs.{Grounded};
+ghost use Rattle.session_rules.specs.Grounds.{Grounded};
 ghost use Rattle.session_spec.specs.Stores.{held_sums, held_output, cipher_or, with_rows, with_answer, grown};
 ghost use Rattle.session_state.specs.Completions.{IsOfOne, IsKey, IsAnswer, IsMade, IsPlanned, last_counted};
 ghost use Rattle.session_state.specs.Standings.{setting, rules_of, state, store, HasRoom, IsUnchanged};

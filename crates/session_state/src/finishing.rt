@@ -2,7 +2,7 @@ ghost use Rattle.std.specs.Prelude.{◌≡◌, false, ◌<◌, length, IfOk, OnO
 ghost use Rattle.bfv_core.specs.Fits.{CipherFits};
 ghost use Rattle.session_rules.specs.declared.reply.Reply.TheVariants as reply;
 ghost use Rattle.session_rules.specs.Facts.{Kept};
-ghost use Rattle.session_rules.specs.Runs.{Grounded};
+ghost use Rattle.session_rules.specs.Grounds.{Grounded};
 ghost use Rattle.session_rules.specs.States.{circuit as circuit_at, is_taken_by};
 ghost use Rattle.session_state.specs.Handed.{is_list};
 ghost use Rattle.session_state.specs.Standings.{setting, rules_of, state, store, finished, store_finished, HasRoom, IsUnchanged};

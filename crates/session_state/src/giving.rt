@@ -4,7 +4,7 @@ ghost use Rattle.session_rules.specs.Steps.{is_input, with_input};
 ghost use Rattle.bfv_core.specs.Fits.{CipherFits};
 ghost use Rattle.session_rules.specs.declared.reply.Reply.TheVariants as reply;
 ghost use Rattle.session_rules.specs.Facts.{Kept, accepts};
-ghost use Rattle.session_rules.specs.Runs.{Grounded};
+ghost use Rattle.session_rules.specs.Grounds.{Grounded};
 ghost use Rattle.session_state.specs.Handed.{is_list};
 ghost use Rattle.session_state.specs.Standings.{setting, rules_of, state, store, inputted, store_inputted, IsUnchanged};
 

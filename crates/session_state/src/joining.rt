@@ -1,7 +1,7 @@
 ghost use Rattle.std.specs.Prelude.{◌≡◌, false, ◌≤◌, IfOk, OnOk, OnErr};
 ghost use Rattle.session_rules.specs.declared.reply.Reply.TheVariants as reply;
 ghost use Rattle.session_rules.specs.Facts.{Kept};
-ghost use Rattle.session_rules.specs.Runs.{Grounded};
+ghost use Rattle.session_rules.specs.Grounds.{Grounded};
 ghost use Rattle.session_state.specs.Handed.{is_list};
 ghost use Rattle.session_state.specs.Standings.{setting, rules_of, state, store, joined, store_joined, HasRoom, IsUnchanged};
 

@@ -3,7 +3,7 @@ ghost use Rattle.ring_spec.specs.Ring.{IsPoly};
 ghost use Rattle.proto_names.specs.Instances.{after_share, missing};
 ghost use Rattle.session_rules.specs.declared.reply.Reply.TheVariants as reply;
 ghost use Rattle.session_rules.specs.Facts.{Kept};
-ghost use Rattle.session_rules.specs.Runs.{Grounded};
+ghost use Rattle.session_rules.specs.Grounds.{Grounded};
 ghost use Rattle.session_state.specs.Handed.{is_list};
 ghost use Rattle.session_spec.specs.Stores.{with_rows};
 ghost use Rattle.session_state.specs.Wanted.{IsWanted};

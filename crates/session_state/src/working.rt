@@ -5,7 +5,7 @@ ghost use Rattle.session_state.specs.Parts.{ciphers_in, IsThere};
 ghost use Rattle.session_state.specs.Standings.{setting, rules_of, state, store, taken, IsUnchanged};
 ghost use Rattle.session_rules.specs.Steps.{ready, next_ready};
 ghost use Rattle.session_rules.specs.Facts.{Kept};
-ghost use Rattle.session_rules.specs.Runs.{Grounded};
+ghost use Rattle.session_rules.specs.Grounds.{Grounded};
 ghost use Rattle.session_state.specs.Handed.{IsJobFor, CanEvaluate, is_list};
 
 use crate::{Places, Standing, Taking};

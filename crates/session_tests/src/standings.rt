@@ -1,7 +1,7 @@
 //! A session over the sum of inputs of the parties 1 and 2 among three, of whom any two act, at its opening.
 ghost use Rattle.std.specs.Prelude.{IfOk, IfSome};
 ghost use Rattle.session_rules.specs.Facts.{Kept};
-ghost use Rattle.session_rules.specs.Runs.{Grounded};
+ghost use Rattle.session_rules.specs.Grounds.{Grounded};
 ghost use Rattle.session_state.specs.Standings.{rules_of, state};
 
 use crate::common::{one_sum, zeros};

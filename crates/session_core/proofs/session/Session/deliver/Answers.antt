@@ -1,62 +1,34 @@
 -- The history goes on by the call, and the polynomials stay honest.
-use Rattle.std.proofs.Common.{◌≡◌, ◌∙◌, sym, ap, true, ℕ, [], ◌∷◌, ◌++◌, length}
+use Rattle.std.proofs.Common.{◌∙◌, ap, ℕ, List, [], ◌∷◌, ◌++◌}
 use Rattle.session_rules.specs.declared.call.Call.TheVariants as call
-use Rattle.session_rules.specs.declared.reply.Reply.{Reply}
-use Rattle.session_rules.specs.States.{State}
-use Rattle.session_spec.specs.Settings.{Setting}
-use Rattle.party_roll.specs.Seeds.{seeds_told}
-use Rattle.session_spec.specs.Honesty.{BringsShare}
+use Rattle.session_rules.specs.declared.call.Entry.{Entry}
+use Rattle.session_rules.specs.Steps.{step}
+use Rattle.session_rules.specs.Tasks.{entry}
 use Rattle.session_core.proofs.Brought.{shared_honest}
-use Rattle.session_state.specs.Standings.{delivered, setting, state, store, store_delivered}
-use Rattle.session_core.specs.Sessions.{entry}
-use Rattle.session_core.proofs.Grown.{kept, grounded, has_room, after_call, few_then}
-use Rattle.session_core.proofs.Kept.{stands, honest_then}
-use Rattle.session_core.proofs.Members.{parties_then}
-use Rattle.session_core.proofs.Said.{deliver_said}
+use Rattle.session_core.specs.Sessions.{BringsShareTo}
+use Rattle.session_core.specs.Calls.{known, brings}
+use Rattle.session_state.specs.Standings.{setting, state, store, store_delivered}
+use Rattle.session_core.proofs.Going.{goes_on, made, reply_is}
 use Rattle.session_core.proofs.session.Session.deliver.Goals as goal
 
-pub deliver-requires-clause-room : goal.deliver-requires-clause-room
-deliver-requires-clause-room g c = let s = c.begin.new.self in has_room s.standing s.log.items s.max_calls s.state_is (rw (c.begin.ensures.log, c.begin.ensures.most) c.in_ok-begin.ensures.more) s.some_calls.1
-
-pub deliver-requires-clause-kept : goal.deliver-requires-clause-kept
-deliver-requires-clause-kept g c = let s = c.begin.new.self in kept s.standing s.log.items s.state_is
-
-pub deliver-requires-clause-grounded : goal.deliver-requires-clause-grounded
-deliver-requires-clause-grounded g c = let s = c.begin.new.self in grounded s.standing s.log.items s.state_is
-
 pub invariant_of-self-2 : goal.invariant_of-self-2
+unfolding step
 invariant_of-self-2 g c =
-    let s = c.begin.new.self in let st = s.standing in let now = c.deliver.new.self in let es = s.log.items in
-    let ok = c.in_ok-reply.ensures in
-    let logged = c.push_reserved.ensures.items ∙ ap (λ (n : ℕ). es ++ entry c.args.caller (call.Deliver c.args.share.now.id c.args.share.now.party n) c.plain_copy.result ∷ []) c.len.ensures in
-    let said_is = deliver_said st es c.args.caller c.args.share.now.id c.args.share.now.party (length c.args.share.now.rows) s.state_is in
-    let leads = after_call st now es c.push_reserved.new.self.items c.args.caller (call.Deliver c.args.share.now.id c.args.share.now.party (length c.args.share.now.rows)) c.plain_copy.result (record { legal = s.legal; state_is = s.state_is }) ok.setting
-    (c.plain_copy.ensures ∙ ok.reply ∙ ap (λ (x : Reply × State). x.0) said_is) (ok.state ∙ ap (λ (x : Reply × State). x.1) said_is) logged in
-    let brings : g.R.Roll.tells s.roll ≡ true → BringsShare (setting st) (seeds_told (g.R.Roll.seed s.roll) st.params.parties) (state st) c.args.share.now.id c.args.share.now.party c.args.share.now.rows =
-    rw (c.begin.ensures.roll, c.begin.ensures.standing) c.requires.honest in
-    record {
-      public_is = ap (λ (w : Setting). w.public) ok.setting ∙ s.public_is;
-      some_calls = s.some_calls;
-      few = few_then s.max_calls es c.push_reserved.new.self.items _ (rw (c.begin.ensures.log, c.begin.ensures.most) c.in_ok-begin.ensures.more) logged;
-      legal = leads.legal;
-      state_is = leads.state_is;
-      parties = parties_then st now es c.args.caller (call.Deliver c.args.share.now.id c.args.share.now.party (length c.args.share.now.rows)) tt s.parties s.state_is ok.params (ok.state ∙ ap (λ (x : Reply × State). x.1) said_is);
-      honest = λ told. let h = s.honest told in let seed = g.R.Roll.seed s.roll in let y = stands seed st es s.state_is h in
-          honest_then seed st now (delivered st c.args.share.now.id c.args.share.now.party (length c.args.share.now.rows)).1 (store_delivered st c.args.share.now.id c.args.share.now.party c.args.share.now.rows) ok.setting ok.params ok.state ok.store h
-          (shared_honest st.params (setting st) _ (state st) (store st) c.args.share.now.id c.args.share.now.party c.args.share.now.rows y (rw c.begin.ensures.standing c.requires.fits) (brings told));
-    }
+    let s = c.begin.new.self in let st = s.standing in let ok = c.in_ok-reply.ensures in
+    let brought : BringsShareTo (known s) (state st) c.args.share.now = rw (c.begin.ensures.waits.roll, c.begin.ensures.waits.most, c.begin.ensures.waits.standing) c.requires.share in
+    let x = goes_on c.args.self.now s c.deliver.new.self c.push_reserved.new.self.items c.args.caller (brings c.args.share.now) c.plain_copy.result (store_delivered st c.args.share.now.id c.args.share.now.party c.args.share.now.rows) c.begin.ensures.waits c.in_ok-begin.ensures.more tt
+    (record { setting = ok.setting; params = ok.params; reply = c.plain_copy.ensures ∙ ok.reply; state = ok.state; store = ok.store })
+    (λ t y. shared_honest st.params (setting st) _ (state st) (store st) c.args.share.now.id c.args.share.now.party c.args.share.now.rows y brought.fits (brought.honest t))
+    (◌∙◌ {A = List Entry} c.push_reserved.ensures.items (ap (λ (n : ℕ). s.log.items ++ entry c.args.caller (call.Deliver c.args.share.now.id c.args.share.now.party n) c.plain_copy.result ∷ []) c.len.ensures)) in
+    record { public_is = x.public_is; legal = x.legal; state_is = x.state_is; sound = x.sound }
 
-pub returns-clause-reply : goal.returns-clause-reply
-returns-clause-reply g c =
-    let s = c.begin.new.self in
-    rw (← c.begin.ensures.standing, ← c.begin.ensures.log) (c.in_ok-reply.ensures.reply ∙ ap (λ (x : Reply × State). x.0) (deliver_said s.standing s.log.items c.args.caller c.args.share.now.id c.args.share.now.party (length c.args.share.now.rows) s.state_is))
-
-pub returns-clause-state : goal.returns-clause-state
-returns-clause-state g c =
-    let s = c.begin.new.self in
-    rw (← c.begin.ensures.standing, ← c.begin.ensures.log) (c.in_ok-reply.ensures.state ∙ ap (λ (x : Reply × State). x.1) (deliver_said s.standing s.log.items c.args.caller c.args.share.now.id c.args.share.now.party (length c.args.share.now.rows) s.state_is))
+pub returns-clause-made : goal.returns-clause-made
+unfolding step
+returns-clause-made g c =
+    let s = c.begin.new.self in let st = s.standing in let ok = c.in_ok-reply.ensures in let b = c.begin.ensures in let push = c.push_reserved.ensures in
+    made c.args.self.now s _ c.args.caller (brings c.args.share.now) _ _ (store_delivered st c.args.share.now.id c.args.share.now.party c.args.share.now.rows) c.plain_copy.ensures b.waits b.doubles c.in_ok-begin.ensures.room
+    (record { setting = ok.setting; params = ok.params; reply = ok.reply; state = ok.state; store = ok.store }) (◌∙◌ {A = List Entry} push.items (ap (λ (n : ℕ). s.log.items ++ entry c.args.caller (call.Deliver c.args.share.now.id c.args.share.now.party n) c.plain_copy.result ∷ []) c.len.ensures)) push.len push.capacity
 
 pub returns-in_err-reply-clause-free : goal.returns-in_err-reply-clause-free
-returns-in_err-reply-clause-free g c _ _ =
-    let s = c.begin.new.self in
-    rw (← c.begin.ensures.standing, ← c.begin.ensures.log) (ap (λ (x : Reply × State). x.0) (sym (deliver_said s.standing s.log.items c.args.caller c.args.share.now.id c.args.share.now.party (length c.args.share.now.rows) s.state_is)) ∙ c.in_err-reply.ensures.free)
+unfolding step
+returns-in_err-reply-clause-free g c _ _ = reply_is c.args.self.now c.begin.new.self c.args.caller (brings c.args.share.now) c.begin.ensures.waits ∙ c.in_err-reply.ensures.free

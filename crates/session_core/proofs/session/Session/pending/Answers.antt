@@ -1,50 +1,46 @@
--- The history goes on by the call, and the key is the public key.
-use Rattle.std.proofs.Common.{◌≡◌, ◌∙◌, ap, refl}
+-- The history goes on by the call, and the polynomials stay honest.
+use Rattle.std.proofs.Common.{◌∙◌, ap, inl, sym, refl, subst}
 use Rattle.session_rules.specs.declared.call.Call.TheVariants as call
-use Rattle.session_rules.specs.declared.reply.Reply.{Reply}
-use Rattle.session_rules.specs.States.{State}
+use Rattle.session_rules.specs.Steps.{step}
+use Rattle.session_state.specs.Handed.{is_list}
+use Rattle.session_core.specs.Handing.{ListsOrKey}
+use Rattle.session_core.specs.Calls.{At}
+use Rattle.session_core.proofs.Handed.{key_if, fits_if}
 use Rattle.session_state.specs.Standings.{setting, state, store}
-use Rattle.session_core.proofs.Grown.{after_call, few_then}
-use Rattle.session_core.proofs.Kept.{stands}
-use Rattle.session_core.proofs.Said.{pending_said}
-use Rattle.session_core.proofs.Handed.{key_if}
-use Rattle.session_core.proofs.Fits.{fits_if}
+use Rattle.session_core.proofs.Going.{stands_in, goes_on, made, reply_is}
 use Rattle.session_core.proofs.session.Session.pending.Goals as goal
 
 pub invariant_of-self : goal.invariant_of-self
+unfolding step
 invariant_of-self g c =
-    let s = c.begin.new.self in let st = s.standing in let es = s.log.items in let logged = c.push_reserved.ensures.items in
-    let said_is = pending_said st es c.args.caller c.args.p s.state_is in
-    let leads = after_call st st es c.push_reserved.new.self.items c.args.caller (call.Pending c.args.p) c.in_ok-reply.reply (record { legal = s.legal; state_is = s.state_is }) refl
-    (c.in_ok-reply.ensures ∙ c.in_ok-listing.ensures.reply ∙ ap (λ (x : Reply × State). x.0) said_is) (ap (λ (x : Reply × State). x.1) said_is) logged in
-    record {
-      public_is = s.public_is;
-      some_calls = s.some_calls;
-      few = few_then s.max_calls es c.push_reserved.new.self.items _ (rw (c.begin.ensures.log, c.begin.ensures.most) c.in_ok-begin.ensures.more) logged;
-      legal = leads.legal;
-      state_is = leads.state_is;
-      parties = s.parties;
-      honest = s.honest;
-    }
+    let s = c.begin.new.self in let st = s.standing in let ok = c.in_ok-listing.ensures in
+    let x = goes_on c.args.self.now s st c.push_reserved.new.self.items c.args.caller (call.Pending c.args.p) c.in_ok-reply.reply (store st) c.begin.ensures.waits c.in_ok-begin.ensures.more tt
+    (record { setting = refl; params = refl; reply = c.in_ok-reply.ensures.same ∙ ok.reply; state = refl; store = refl })
+    (λ t y. y.honest)
+    c.push_reserved.ensures.items in
+    record { public_is = x.public_is; legal = x.legal; state_is = x.state_is; sound = x.sound }
 
-pub returns-clause-reply : goal.returns-clause-reply
-returns-clause-reply g c =
-    let s = c.begin.new.self in
-    rw (← c.begin.ensures.standing, ← c.begin.ensures.log)
-    (c.in_ok-listing.ensures.reply ∙ ap (λ (x : Reply × State). x.0) (pending_said s.standing s.log.items c.args.caller c.args.p s.state_is))
+pub returns-clause-made : goal.returns-clause-made
+unfolding step
+returns-clause-made g c =
+    let s = c.begin.new.self in let st = s.standing in let ok = c.in_ok-listing.ensures in let b = c.begin.ensures in let push = c.push_reserved.ensures in
+    made c.args.self.now s _ c.args.caller (call.Pending c.args.p) _ _ (store st) c.in_ok-reply.ensures.same b.waits b.doubles c.in_ok-begin.ensures.room
+    (record { setting = refl; params = refl; reply = ok.reply; state = refl; store = refl }) (push.items) push.len push.capacity
 
-pub returns-clause-state : goal.returns-clause-state
-returns-clause-state g c =
-    let s = c.begin.new.self in
-    rw (← c.begin.ensures.standing, ← c.begin.ensures.log) (ap (λ (x : Reply × State). x.1) (pending_said s.standing s.log.items c.args.caller c.args.p s.state_is))
+pub returns-in_err-listing-clause-free : goal.returns-in_err-listing-clause-free
+unfolding step
+returns-in_err-listing-clause-free g c _ _ = subst (λ r. At ListsOrKey c.args.self.now r) (sym (reply_is c.args.self.now c.begin.new.self c.args.caller (call.Pending c.args.p) c.begin.ensures.waits)) (rw (← c.begin.ensures.waits.standing) c.in_err-listing.ensures.free)
 
-pub returns-clause-fits : goal.returns-clause-fits
-returns-clause-fits g c =
-    let s = c.begin.new.self in
-    rw (← c.begin.ensures.standing) (fits_if s.standing s.log.items c.in_ok-listing.listing.key s.state_is c.in_ok-listing.ensures.key)
+pub returns-in_err-reply-clause-free : goal.returns-in_err-reply-clause-free
+unfolding step
+returns-in_err-reply-clause-free g c _ _ = inl (ap is_list (reply_is c.args.self.now c.begin.new.self c.args.caller (call.Pending c.args.p) c.begin.ensures.waits ∙ sym c.in_ok-listing.ensures.reply) ∙ c.in_err-reply.ensures.free)
 
-pub returns-clause-public_key : goal.returns-clause-public_key
-returns-clause-public_key g c =
-    let s = c.begin.new.self in let st = s.standing in
-    rw (← c.begin.ensures.standing, ← c.begin.ensures.roll)
-    (λ told. key_if st.params (setting st) _ (state st) (store st) c.in_ok-listing.listing.key (stands (g.R.Roll.seed s.roll) st s.log.items s.state_is (s.honest told)) c.in_ok-listing.ensures.key)
+pub returns-clause-key : goal.returns-clause-key
+returns-clause-key g c =
+    let s = c.begin.new.self in let st = s.standing in let key = c.in_ok-listing.ensures.key in let w = c.begin.ensures.waits in
+    rw (← w.standing, ← w.roll) (record {
+      held = key;
+      fits = fits_if st s.log.items c.in_ok-listing.listing.key s.state_is key;
+      honest = λ t. key_if st.params (setting st) _ (state st) (store st) c.in_ok-listing.listing.key
+          (stands_in s t) key;
+    })

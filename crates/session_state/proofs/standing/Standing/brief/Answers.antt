@@ -40,4 +40,5 @@ returns c =
       told = λ i e. subst (λ (b : Brief). IsBriefOf st.params (store st) i b) (sym same) (told i e);
       there = λ i e l z. cc;
       stands = (rw (it_is.signature, it_is.set) refl) ∙ ap brief_reply (sym same);
+      free = tt;
     }
