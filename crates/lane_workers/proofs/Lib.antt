@@ -1,5 +1,7 @@
-pub mod Growth
-pub mod Stopping
+pub mod Doing
+pub mod Going
+pub mod Asking
+pub mod Settled
 pub mod Bringing
 pub mod Owing
 pub mod Present

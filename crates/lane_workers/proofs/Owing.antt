@@ -1,9 +1,10 @@
 -- What a party is told that it owes is its own, and of inputs it is told once there is a key, which stays.
-use Rattle.std.proofs.Common.{◌≡◌, ◌∙◌, sym, ap, refl, ℕ, ◌<◌, Bool, true, false, not, cond, nat_eq, nat_lt, List, [], ◌∷◌, length, slice_index_or, map, filter, All, Contains, Option, Some, None, arith}
+use Rattle.std.proofs.Common.{◌≡◌, ◌∙◌, sym, ap, subst, refl, ℕ, ◌<◌, Bool, true, false, not, cond, nat_eq, nat_lt, List, [], ◌∷◌, ◌++◌, length, slice_index_or, map, filter, All, Contains, Option, Some, None, arith}
 use Rattle.std.specs.Prelude.{if◌then◌else◌}
 use Rattle.std.specs.List.{range_with_len, flat_map}
 use Rattle.std.specs.Option.{option_map}
 use Rattle.std.proofs.lemmas.Bool.{and_parts, and_from, eqb-true, lt-ltb}
+use Rattle.std.proofs.lemmas.List.{append_assoc}
 use Rattle.std.proofs.lemmas.List.Elements.{All-nil, All-append, All-map, All-weaker, All-contains_itself}
 use Rattle.ring_spec.specs.Pairs.{Key}
 use Rattle.share_spec.specs.Sets.{has}
@@ -14,20 +15,19 @@ use Rattle.session_rules.specs.declared.call.Call.TheVariants as call
 use Rattle.session_rules.specs.declared.call.Entry.{Entry}
 use Rattle.session_rules.specs.declared.reply.Reply.TheVariants as reply
 use Rattle.session_rules.specs.declared.fixed.Fixed.{Fixed}
-use Rattle.session_rules.specs.States.{State, plan, is_admitted, is_given, has_done}
+use Rattle.session_rules.specs.States.{State, opening, plan, is_admitted, is_given, has_done}
 use Rattle.session_rules.specs.Steps.{step, pending, place, is_input, lacks_input, owed_of, owed_inputs}
-use Rattle.session_rules.specs.Histories.{state_after}
-use Rattle.session_rules.specs.Lanes.{Run, shared_all, listed}
+use Rattle.session_rules.specs.Histories.{after, state_after}
 use Rattle.session_rules.proofs.Contained.{contains_filter_from, range_within, none_from_find}
-use Rattle.session_rules.proofs.Courses.{shares_go}
-use Rattle.session_rules.proofs.Sends.{goes_next}
-use Rattle.session_rules.proofs.Keeps.{histories_keep}
+use Rattle.session_rules.proofs.Deliveries.{keys_stay}
+use Rattle.session_rules.proofs.Keeps.{after_next, histories_keep}
+use Rattle.session_rules.proofs.Runs.{after_append}
 use Rattle.session_spec.specs.Settings.{Setting, rules}
 use Rattle.session_spec.specs.Outputs.{key_instance, key_in}
 use Rattle.session_spec.specs.Stores.{Store, held_key, key_by}
 use Rattle.session_rules.proofs.Issued.{done_here}
 use Rattle.session_laws.proofs.Keys.{key_found, key_stays}
-use Rattle.lane_workers.specs.Acting.{run_behind, Owns, OwnsPlace}
+use Rattle.lane_workers.specs.Acting.{Owns, OwnsPlace}
 
 -- ---- its own
 
@@ -73,13 +73,13 @@ unfolding key_instance has_done
 key_done is w h None e n = none_from_find (is_done Pk) is e
 key_done is w h (Some i) e n = cc
 
-none_owed : (f : Fixed) (s : State) (p : ℕ) → has_done Pk s.instances ≡ false → owed_inputs f s p ≡ []
+no_inputs_yet : (f : Fixed) (s : State) (p : ℕ) → has_done Pk s.instances ≡ false → owed_inputs f s p ≡ []
 unfolding owed_inputs
-none_owed f s p e = rw e refl
+no_inputs_yet f s p e = rw e refl
 
 pub no_inputs : (w : Setting) (h : Store) (f : Fixed) (s : State) (p : ℕ) → held_key w h s.instances ≡ None → owed_inputs f s p ≡ []
 unfolding held_key
-no_inputs w h f s p e = none_owed f s p (key_done s.instances w h (key_instance s.instances) refl e)
+no_inputs w h f s p e = no_inputs_yet f s p (key_done s.instances w h (key_instance s.instances) refl e)
 
 -- ---- where there is one it stays while shares are given
 
@@ -91,38 +91,44 @@ pub held_done : (w : Setting) (h : Store) (is : List Instance) (key : Key) → h
 unfolding held_key
 held_done w h is key e = some_key is w h key (key_instance is) refl e
 
-pub key_after : (w : Setting) (seeds : List (List ℕ)) (log later : List Entry) (p : ℕ) (ids : List ℕ) → run_behind (rules w) later ≡ shared_all (rules w) 0 p (run_behind (rules w) log) ids
-    → has_done Pk (state_after (rules w) log).instances ≡ true → key_in w seeds (state_after (rules w) log).instances ≡ key_in w seeds (state_after (rules w) later).instances
-key_after w seeds log later p ids e done =
+-- what is called behind a history leaves the public key, if there was one
+pub key_after : (w : Setting) (seeds : List (List ℕ)) (log later es : List Entry) → later ≡ log ++ es → has_done Pk (state_after (rules w) log).instances ≡ true
+    → key_in w seeds (state_after (rules w) log).instances ≡ key_in w seeds (state_after (rules w) later).instances
+key_after w seeds log later es e done =
     let f = rules w in
-    let r = run_behind f log in
-    let u = shared_all f 0 p r ids in
-    let h = shares_go f 0 p r ids in
-    let on = goes_next f r u h.es h.goes (histories_keep f log) in
-    let s : u.state ≡ state_after f later = ap (λ (z : Run). z.state) (sym e) in
-    key_stays w seeds r.state u.state on.0 on.1 done ∙ ap (λ (z : State). key_in w seeds z.instances) s
+    let s = state_after f log in
+    let on = after_next f s es (histories_keep f log) in
+    key_stays w seeds s (after f s es) on.0 on.1 done
+    ∙ ap (λ (z : State). key_in w seeds z.instances) (sym (after_append f (opening f) log es)) ∙ ap (λ (z : List Entry). key_in w seeds (state_after f z).instances) (sym e)
+
+pub key_later : (w v : Setting) (seeds : List (List ℕ)) (s t : State) (log later es : List Entry) → v ≡ w → s ≡ state_after (rules w) log → t ≡ state_after (rules v) later → later ≡ log ++ es
+    → has_done Pk s.instances ≡ true → key_in w seeds s.instances ≡ key_in w seeds t.instances
+key_later w v seeds s t log later es same was now e done =
+    ap (λ (z : State). key_in w seeds z.instances) was
+    ∙ key_after w seeds log later es e (subst (λ (z : State). has_done Pk z.instances ≡ true) was done)
+    ∙ ap (λ (z : Setting). key_in w seeds (state_after (rules z) later).instances) (sym same) ∙ ap (λ (z : State). key_in w seeds z.instances) (sym now)
+
+-- and there still is one
+pub done_later : (w v : Setting) (s t : State) (log later es : List Entry) → v ≡ w → s ≡ state_after (rules w) log → t ≡ state_after (rules v) later → later ≡ log ++ es
+    → has_done Pk s.instances ≡ true → has_done Pk t.instances ≡ true
+done_later w v s t log later es same was now e done =
+    let f = rules w in
+    let start = state_after f log in
+    let on = after_next f start es (histories_keep f log) in
+    let there = keys_stay start (after f start es) Pk on.1 (λ x. cc) (subst (λ (z : State). has_done Pk z.instances ≡ true) was done) in
+    let is : t ≡ after f start es = now ∙ ap (λ (z : Setting). state_after (rules z) later) same ∙ ap (state_after f) e ∙ after_append f (opening f) log es in
+    subst (λ (z : State). has_done Pk z.instances ≡ true) (sym is) there
+
+pub two_more : (a b c es fs : List Entry) → b ≡ a ++ es → c ≡ b ++ fs → c ≡ a ++ (es ++ fs)
+two_more a b c es fs x y = y ∙ ap (λ (z : List Entry). z ++ fs) x ∙ append_assoc a es fs
 
 -- ---- the listing
-
-pub pending_said : (f : Fixed) (s : State) (who p : ℕ) → step f s who (call.Pending p) ≡ (pending f s p, s)
-unfolding step
-pending_said f s who p = refl
 
 listed_then : (f : Fixed) (s : State) (p : ℕ) (b : Bool) (ids : List ℕ) (places : List (ℕ × ℕ)) → (if b then reply.List (owed_shares p s.instances) (owed_inputs f s p) else reply.Absent) ≡ reply.List ids places
     → places ≡ owed_inputs f s p
 listed_then f s p true ids places e = cc
 listed_then f s p false ids places e = cc
 
-pub listed_inputs : (f : Fixed) (s : State) (p : ℕ) (ids : List ℕ) (places : List (ℕ × ℕ)) → pending f s p ≡ reply.List ids places → places ≡ owed_inputs f s p
-unfolding pending
-listed_inputs f s p ids places e = listed_then f s p (has s.present p) ids places e
-
-listing_then : (f : Fixed) (s : State) (p : ℕ) (b : Bool) → ((ids : List ℕ) (places : List (ℕ × ℕ)) → (if b then reply.List (owed_shares p s.instances) (owed_inputs f s p) else reply.Absent) ≡ reply.List ids places → ⊥)
-    → listed (if b then reply.List (owed_shares p s.instances) (owed_inputs f s p) else reply.Absent) ≡ None
-listing_then f s p true h = absurd (h (owed_shares p s.instances) (owed_inputs f s p) refl)
-listing_then f s p false h = refl
-
--- what isn't a list names nothing that is owed
-pub not_listed : (f : Fixed) (s : State) (p : ℕ) → ((ids : List ℕ) (places : List (ℕ × ℕ)) → pending f s p ≡ reply.List ids places → ⊥) → listed (pending f s p) ≡ None
-unfolding pending
-not_listed f s p h = listing_then f s p (has s.present p) h
+pub listed_inputs : (f : Fixed) (s : State) (who p : ℕ) (ids : List ℕ) (places : List (ℕ × ℕ)) → (step f s who (call.Pending p)).0 ≡ reply.List ids places → places ≡ owed_inputs f s p
+unfolding step pending
+listed_inputs f s who p ids places e = listed_then f s p (has s.present p) ids places e

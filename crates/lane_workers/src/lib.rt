@@ -2,10 +2,10 @@
 //!
 //! A session is settled by rounds (docs/SESSION.md): in each the parties that are present at its start send what
 //! they owe, in the order of their numbers, and then all circuits that are ready are evaluated; rounds are made
-//! while an admitted circuit isn't answered, six at most. `settle` makes exactly the calls that the rules of
-//! settling name, as caller 0, with their replies, and `serial` has parties join before; where they stop, the calls
-//! made are the first ones of these. Where the roll tells the parties' seeds, what is brought is what honest
-//! parties bring. Nothing is said of how much memory this takes.
+//! while an admitted circuit isn't answered, six at most. Each function says of the entries that it adds to the log
+//! that caller 0 alone made them, and which tasks they do, in the words of session_rules; where it stops, they are
+//! the first ones of these, and it says which call is next and why that wasn't made. Where the roll tells the
+//! parties' seeds, what is brought is what honest parties bring. Nothing is said of how much memory this takes.
 #![tactic(auto)]
 
 mod joining;

@@ -1,12 +1,9 @@
-ghost use Rattle.std.specs.Prelude.{◌≡◌, true, length, map, All, OnOk, OnErr, Err};
-ghost use Rattle.bfv_core.specs.Fits.{KeyFits};
-ghost use Rattle.party_roll.specs.Seeds.{seeds_told};
-ghost use Rattle.session_rules.specs.Lanes.{shared, shared_all, given_all, sent};
-ghost use Rattle.session_spec.specs.Outputs.{key_in};
-ghost use Rattle.session_state.specs.Standings.{setting, rules_of, state};
-ghost use Rattle.session_core.specs.Sessions.{IsSameSetting};
-ghost use Rattle.session_core.specs.declared.stop.Stop.TheVariants.{Spent};
-ghost use Rattle.lane_workers.specs.Acting.{run_behind, Begins, CanAct, IsHonestParty, OwnsPlace};
+ghost use Rattle.std.specs.Prelude.{◌≡◌, [], ◌∷◌, map, All, OnOk, IfErr};
+ghost use Rattle.session_rules.specs.Tasks.{shares, gives_at};
+ghost use Rattle.session_rules.specs.Courses.{sends};
+ghost use Rattle.session_core.specs.Calls.{known, about, state_of};
+ghost use Rattle.lane_workers.specs.Acting.{Acts, IsKey, OwnsPlace};
+ghost use Rattle.lane_workers.specs.Doing.{Did, BrokeOff};
 
 use mod_ring::{PublicKey, Ring};
 use party_roll::{Party, Roll};
@@ -21,16 +18,11 @@ fn share<R: Roll, P: Party>(
     party: &P,
     id: u32,
 ) -> Result<(), Stop>
-    requires ring { ring.now.params ≡ session.old.standing.params }
-    requires able { CanAct session.old.standing.params (setting session.old.standing) (P.params party.now) (P.number party.now) (P.values party.now) }
-    requires told { R.tells session.old.roll ≡ true → IsHonestParty (setting session.old.standing) (seeds_told (R.seed session.old.roll) session.old.standing.params.parties) (P.tells party.now) (P.public party.now) (P.seeds party.now) (P.number party.now) (P.values party.now) }
-    ensures run { OnOk result (run_behind (rules_of session.old.standing) session.new.log.items ≡ shared (rules_of session.old.standing) 0 (P.number party.now) (run_behind (rules_of session.old.standing) session.old.log.items) id) }
-    ensures stopped { OnErr result (Begins session.new.log.items (shared (rules_of session.old.standing) 0 (P.number party.now) (run_behind (rules_of session.old.standing) session.old.log.items) id).log) }
-    ensures grows { Begins session.old.log.items session.new.log.items }
-    ensures same { IsSameSetting session.old.standing session.new.standing }
-    ensures roll { session.new.roll ≡ session.old.roll }
-    ensures most { session.new.max_calls ≡ session.old.max_calls }
-    ensures spent { result ≡ Err Spent → length session.new.log.items ≡ session.new.max_calls }
+    requires ring { ring.now.params ≡ (known session.old).params }
+    requires party { Acts P.Party (known session.old) party.now }
+    ensures about { about session.new ≡ about session.old }
+    ensures done { OnOk result (Did (shares (P.number party.now) id ∷ []) session.old session.new) }
+    ensures stopped { IfErr result (BrokeOff (shares (P.number party.now) id ∷ []) session.old session.new) }
 {
     let briefing = session.brief(0, id)?;
     match &briefing.brief {
@@ -51,16 +43,11 @@ fn share_all<R: Roll, P: Party>(
     party: &P,
     ids: &[u32],
 ) -> Result<(), Stop>
-    requires ring { ring.now.params ≡ session.old.standing.params }
-    requires able { CanAct session.old.standing.params (setting session.old.standing) (P.params party.now) (P.number party.now) (P.values party.now) }
-    requires told { R.tells session.old.roll ≡ true → IsHonestParty (setting session.old.standing) (seeds_told (R.seed session.old.roll) session.old.standing.params.parties) (P.tells party.now) (P.public party.now) (P.seeds party.now) (P.number party.now) (P.values party.now) }
-    ensures run { OnOk result (run_behind (rules_of session.old.standing) session.new.log.items ≡ shared_all (rules_of session.old.standing) 0 (P.number party.now) (run_behind (rules_of session.old.standing) session.old.log.items) ids.now) }
-    ensures stopped { OnErr result (Begins session.new.log.items (shared_all (rules_of session.old.standing) 0 (P.number party.now) (run_behind (rules_of session.old.standing) session.old.log.items) ids.now).log) }
-    ensures grows { Begins session.old.log.items session.new.log.items }
-    ensures same { IsSameSetting session.old.standing session.new.standing }
-    ensures roll { session.new.roll ≡ session.old.roll }
-    ensures most { session.new.max_calls ≡ session.old.max_calls }
-    ensures spent { result ≡ Err Spent → length session.new.log.items ≡ session.new.max_calls }
+    requires ring { ring.now.params ≡ (known session.old).params }
+    requires party { Acts P.Party (known session.old) party.now }
+    ensures about { about session.new ≡ about session.old }
+    ensures done { OnOk result (Did (map (shares (P.number party.now)) ids.now) session.old session.new) }
+    ensures stopped { IfErr result (BrokeOff (map (shares (P.number party.now)) ids.now) session.old session.new) }
 {
     'ids: for id in ids {
         share(alloc, session, ring, party, *id)?;
@@ -77,19 +64,13 @@ fn give_all<R: Roll, P: Party>(
     key: &PublicKey,
     places: &[(u32, u32)],
 ) -> Result<(), Stop>
-    requires ring { ring.now.params ≡ session.old.standing.params }
-    requires able { CanAct session.old.standing.params (setting session.old.standing) (P.params party.now) (P.number party.now) (P.values party.now) }
-    requires told { R.tells session.old.roll ≡ true → IsHonestParty (setting session.old.standing) (seeds_told (R.seed session.old.roll) session.old.standing.params.parties) (P.tells party.now) (P.public party.now) (P.seeds party.now) (P.number party.now) (P.values party.now) }
-    requires fits { KeyFits ring.now.params.q ring.now.params.n key.now }
-    requires key { R.tells session.old.roll ≡ true → key.now ≡ key_in (setting session.old.standing) (seeds_told (R.seed session.old.roll) session.old.standing.params.parties) (state session.old.standing).instances }
-    requires own { All (OwnsPlace (setting session.old.standing) (P.number party.now)) places.now }
-    ensures run { OnOk result (run_behind (rules_of session.old.standing) session.new.log.items ≡ given_all (rules_of session.old.standing) 0 (run_behind (rules_of session.old.standing) session.old.log.items) places.now) }
-    ensures stopped { OnErr result (Begins session.new.log.items (given_all (rules_of session.old.standing) 0 (run_behind (rules_of session.old.standing) session.old.log.items) places.now).log) }
-    ensures grows { Begins session.old.log.items session.new.log.items }
-    ensures same { IsSameSetting session.old.standing session.new.standing }
-    ensures roll { session.new.roll ≡ session.old.roll }
-    ensures most { session.new.max_calls ≡ session.old.max_calls }
-    ensures spent { result ≡ Err Spent → length session.new.log.items ≡ session.new.max_calls }
+    requires ring { ring.now.params ≡ (known session.old).params }
+    requires party { Acts P.Party (known session.old) party.now }
+    requires key { IsKey (known session.old) (state_of session.old) key.now }
+    requires own { All (OwnsPlace (known session.old).setting (P.number party.now)) places.now }
+    ensures about { about session.new ≡ about session.old }
+    ensures done { OnOk result (Did (map gives_at places.now) session.old session.new) }
+    ensures stopped { IfErr result (BrokeOff (map gives_at places.now) session.old session.new) }
 {
     'places: for place in places {
         let ct = party.input(alloc, ring, key, place.0, place.1)?;
@@ -105,16 +86,11 @@ pub(crate) fn send<R: Roll, P: Party>(
     ring: &Ring,
     party: &P,
 ) -> Result<(), Stop>
-    requires ring { ring.now.params ≡ session.old.standing.params }
-    requires able { CanAct session.old.standing.params (setting session.old.standing) (P.params party.now) (P.number party.now) (P.values party.now) }
-    requires told { R.tells session.old.roll ≡ true → IsHonestParty (setting session.old.standing) (seeds_told (R.seed session.old.roll) session.old.standing.params.parties) (P.tells party.now) (P.public party.now) (P.seeds party.now) (P.number party.now) (P.values party.now) }
-    ensures run { OnOk result (run_behind (rules_of session.old.standing) session.new.log.items ≡ sent (rules_of session.old.standing) 0 (P.number party.now) (run_behind (rules_of session.old.standing) session.old.log.items)) }
-    ensures stopped { OnErr result (Begins session.new.log.items (sent (rules_of session.old.standing) 0 (P.number party.now) (run_behind (rules_of session.old.standing) session.old.log.items)).log) }
-    ensures grows { Begins session.old.log.items session.new.log.items }
-    ensures same { IsSameSetting session.old.standing session.new.standing }
-    ensures roll { session.new.roll ≡ session.old.roll }
-    ensures most { session.new.max_calls ≡ session.old.max_calls }
-    ensures spent { result ≡ Err Spent → length session.new.log.items ≡ session.new.max_calls }
+    requires ring { ring.now.params ≡ (known session.old).params }
+    requires party { Acts P.Party (known session.old) party.now }
+    ensures about { about session.new ≡ about session.old }
+    ensures done { OnOk result (Did (sends (P.number party.now) ∷ []) session.old session.new) }
+    ensures stopped { IfErr result (BrokeOff (sends (P.number party.now) ∷ []) session.old session.new) }
 {
     let listing = session.pending(alloc, 0, party.number())?;
     if let Reply::List { ids, inputs } = &listing.reply {

@@ -1,12 +1,11 @@
-ghost use Rattle.std.specs.Prelude.{◌≡◌, true, length, map, All, OnOk, OnErr, Err};
-ghost use Rattle.std.specs.List.{list_all, range_with_len};
-ghost use Rattle.share_spec.specs.Sets.{members};
-ghost use Rattle.party_roll.specs.Seeds.{seeds_told};
-ghost use Rattle.session_rules.specs.Lanes.{is_over, sent_by_all, round as after_round, settled};
-ghost use Rattle.session_state.specs.Standings.{setting, rules_of, state};
-ghost use Rattle.session_core.specs.Sessions.{IsSameSetting};
-ghost use Rattle.session_core.specs.declared.stop.Stop.TheVariants.{Spent};
-ghost use Rattle.lane_workers.specs.Acting.{run_behind, Begins, CanAct, IsHonestParty};
+ghost use Rattle.std.specs.Prelude.{◌≡◌, true, OnOk, IfErr, None};
+ghost use Rattle.std.specs.List.{list_all};
+ghost use Rattle.session_rules.specs.Steps.{next_ready};
+ghost use Rattle.session_rules.specs.Courses.{is_over, is_settled as is_session_settled, round_tasks};
+ghost use Rattle.session_rules.specs.Grounds.{NoneOpened, CanSettle};
+ghost use Rattle.session_core.specs.Calls.{known, about, state_of};
+ghost use Rattle.lane_workers.specs.Acting.{AreParties};
+ghost use Rattle.lane_workers.specs.Doing.{Did, BrokeOff, Settled, StoppedSettling, all_send, rules_for};
 
 use crate::sending::send;
 use crate::working::work_off;
@@ -29,17 +28,11 @@ fn send_by_all<R: Roll, P: Party>(
     ring: &Ring,
     parties: &[P],
 ) -> Result<(), Stop>
-    requires ring { ring.now.params ≡ session.old.standing.params }
-    requires numbers { map P.number parties.now ≡ range_with_len 1 session.old.standing.params.parties }
-    requires able { All (λ a. CanAct session.old.standing.params (setting session.old.standing) (P.params a) (P.number a) (P.values a)) parties.now }
-    requires told { R.tells session.old.roll ≡ true → All (λ a. IsHonestParty (setting session.old.standing) (seeds_told (R.seed session.old.roll) session.old.standing.params.parties) (P.tells a) (P.public a) (P.seeds a) (P.number a) (P.values a)) parties.now }
-    ensures run { OnOk result (run_behind (rules_of session.old.standing) session.new.log.items ≡ sent_by_all (rules_of session.old.standing) 0 (run_behind (rules_of session.old.standing) session.old.log.items) (members (state session.old.standing).present)) }
-    ensures stopped { OnErr result (Begins session.new.log.items (sent_by_all (rules_of session.old.standing) 0 (run_behind (rules_of session.old.standing) session.old.log.items) (members (state session.old.standing).present)).log) }
-    ensures grows { Begins session.old.log.items session.new.log.items }
-    ensures same { IsSameSetting session.old.standing session.new.standing }
-    ensures roll { session.new.roll ≡ session.old.roll }
-    ensures most { session.new.max_calls ≡ session.old.max_calls }
-    ensures spent { result ≡ Err Spent → length session.new.log.items ≡ session.new.max_calls }
+    requires ring { ring.now.params ≡ (known session.old).params }
+    requires parties { AreParties P.Party (known session.old) parties.now }
+    ensures about { about session.new ≡ about session.old }
+    ensures done { OnOk result (Did (all_send session.old) session.old session.new) }
+    ensures stopped { IfErr result (BrokeOff (all_send session.old) session.old session.new) }
 {
     let present = session.present();
     'parties: for party in parties {
@@ -57,24 +50,20 @@ fn round<R: Roll, P: Party>(
     ring: &Ring,
     parties: &[P],
 ) -> Result<(), Stop>
-    requires ring { ring.now.params ≡ session.old.standing.params }
-    requires numbers { map P.number parties.now ≡ range_with_len 1 session.old.standing.params.parties }
-    requires able { All (λ a. CanAct session.old.standing.params (setting session.old.standing) (P.params a) (P.number a) (P.values a)) parties.now }
-    requires told { R.tells session.old.roll ≡ true → All (λ a. IsHonestParty (setting session.old.standing) (seeds_told (R.seed session.old.roll) session.old.standing.params.parties) (P.tells a) (P.public a) (P.seeds a) (P.number a) (P.values a)) parties.now }
-    ensures run { OnOk result (run_behind (rules_of session.old.standing) session.new.log.items ≡ after_round (rules_of session.old.standing) 0 (run_behind (rules_of session.old.standing) session.old.log.items)) }
-    ensures stopped { OnErr result (Begins session.new.log.items (after_round (rules_of session.old.standing) 0 (run_behind (rules_of session.old.standing) session.old.log.items)).log) }
-    ensures grows { Begins session.old.log.items session.new.log.items }
-    ensures same { IsSameSetting session.old.standing session.new.standing }
-    ensures roll { session.new.roll ≡ session.old.roll }
-    ensures most { session.new.max_calls ≡ session.old.max_calls }
-    ensures spent { result ≡ Err Spent → length session.new.log.items ≡ session.new.max_calls }
+    requires ring { ring.now.params ≡ (known session.old).params }
+    requires parties { AreParties P.Party (known session.old) parties.now }
+    ensures about { about session.new ≡ about session.old }
+    ensures done { OnOk result (Did (round_tasks (state_of session.old)) session.old session.new) }
+    ensures stopped { IfErr result (BrokeOff (round_tasks (state_of session.old)) session.old session.new) }
 {
     send_by_all(alloc, session, ring, parties)?;
     work_off(alloc, session, ring)?;
     Ok(())
 }
 
-/// Settles a session, as caller 0: rounds are made while an admitted circuit isn't answered, six at most.
+/// Settles a session, as caller 0: rounds are made while an admitted circuit isn't answered, six at most. Then no
+/// instance is opened and no circuit is ready; and each admitted circuit is answered where enough parties are
+/// present, the owners of all inputs that are wanted among them, and no circuit was taken.
 ///
 /// The parties are all of the session's, in the order of their numbers; those that aren't present send nothing.
 /// Where a call, a share, an input or an output meets no memory, or all calls of the session are made, the calls
@@ -86,17 +75,15 @@ pub fn settle<R: Roll, P: Party>(
     ring: &Ring,
     parties: &[P],
 ) -> Result<(), Stop>
-    requires ring { ring.now.params ≡ session.old.standing.params }
-    requires numbers { map P.number parties.now ≡ range_with_len 1 session.old.standing.params.parties }
-    requires able { All (λ a. CanAct session.old.standing.params (setting session.old.standing) (P.params a) (P.number a) (P.values a)) parties.now }
-    requires told { R.tells session.old.roll ≡ true → All (λ a. IsHonestParty (setting session.old.standing) (seeds_told (R.seed session.old.roll) session.old.standing.params.parties) (P.tells a) (P.public a) (P.seeds a) (P.number a) (P.values a)) parties.now }
-    ensures run { OnOk result (session.new.log.items ≡ (settled (rules_of session.old.standing) 0 (run_behind (rules_of session.old.standing) session.old.log.items)).log) }
-    ensures stopped { OnErr result (Begins session.new.log.items (settled (rules_of session.old.standing) 0 (run_behind (rules_of session.old.standing) session.old.log.items)).log) }
-    ensures grows { Begins session.old.log.items session.new.log.items }
-    ensures same { IsSameSetting session.old.standing session.new.standing }
-    ensures roll { session.new.roll ≡ session.old.roll }
-    ensures most { session.new.max_calls ≡ session.old.max_calls }
-    ensures spent { result ≡ Err Spent → length session.new.log.items ≡ session.new.max_calls }
+    requires ring { ring.now.params ≡ (known session.old).params }
+    requires parties { AreParties P.Party (known session.old) parties.now }
+    ensures about { about session.new ≡ about session.old }
+    ensures done { OnOk result (Settled session.old session.new) }
+    ensures none_opened { OnOk result (NoneOpened (state_of session.new)) }
+    ensures none_ready { OnOk result (next_ready (rules_for session.new) (state_of session.new) ≡ None) }
+    ensures answered { OnOk result (CanSettle (rules_for session.old) (state_of session.old)
+        → is_session_settled (state_of session.new) ≡ true) }
+    ensures stopped { IfErr result (StoppedSettling session.old session.new) }
 {
     'rounds: for _ in 0..6u32 {
         if is_settled(session.circuit_states()) {

@@ -1,44 +1,49 @@
-use Rattle.std.proofs.Common.{◌∙◌, sym, subst, refl, ◌≤◌, get_or, arith}
+use Rattle.std.proofs.Common.{◌∙◌, sym, subst, refl, ◌+◌, map, drop, get_or, arith}
 use Rattle.std.proofs.lemmas.List.Elements.{All-get_or}
-use Rattle.param_set.specs.declared.params.Params.{Params}
 use Rattle.session_rules.specs.declared.call.Call.TheVariants as call
-use Rattle.session_state.specs.Standings.{rules_of}
-use Rattle.lane_workers.specs.Acting.{IsParty}
-use Rattle.lane_workers.proofs.Growth.{behind_same, join_on, join_end}
-use Rattle.lane_workers.proofs.Bringing.{same_then, same_rules}
-use Rattle.session_state.proofs.Joins.{on_err}
-use Rattle.lane_workers.proofs.Stopping.{begins_same, begins_append, begins_more, joins_stop}
+use Rattle.session_rules.specs.Courses.{joins}
+use Rattle.session_core.specs.Sessions.{Known, IsParty}
+use Rattle.session_core.specs.Calls.{known}
+use Rattle.lane_workers.specs.Doing.{BrokeOff}
+use Rattle.lane_workers.proofs.Going.{if_err, err_spent, known_is, begins, calls_on, stops_on, one_there, none_there}
 use Rattle.lane_workers.proofs.joining.join_all.Goals as goal
 
 pub parties-init : goal.parties-init
-parties-init g c = record { whole = refl; grows = begins_same _ _ refl; same = record { setting = refl; params = refl }; roll = refl; most = refl }
+parties-init g c = record { about = refl; doing = begins (map joins c.args.present.now) c.args.session.now }
 
-pub join-requires-clause-last : goal.join-requires-clause-last
-join-requires-clause-last g c κs within =
-    let is_one : IsParty c.args.session.now.standing.params.parties (get_or c.args.present.now c.parties.p-index 0) =
-    All-get_or (IsParty c.args.session.now.standing.params.parties) c.args.present.now c.parties.p-index 0 c.parties-test.true c.requires.present in
-    subst (λ (z : Params). get_or c.args.present.now c.parties.p-index 0 ≤ z.parties) (sym c.parties.invariant.same.params) is_one.1
-
-pub returns-in_err-join-clause-same : goal.returns-in_err-join-clause-same
-returns-in_err-join-clause-same g c = same_then _ _ _ c.parties.invariant.same c.join.ensures.setting
+pub join-requires-clause-party : goal.join-requires-clause-party
+join-requires-clause-party g c κs within =
+    let n = (known c.args.session.now).params.parties in
+    let p = get_or c.args.present.now c.parties.p-index 0 in
+    let is_one : IsParty n p = All-get_or (IsParty n) c.args.present.now c.parties.p-index 0 c.parties-test.true c.requires.present in
+    subst (λ (z : Known). IsParty z.params.parties p) (sym (known_is c.args.session.now c.parties.session c.parties.invariant.about)) is_one
 
 pub parties-preserved : goal.parties-preserved
 parties-preserved g c =
     let i = c.parties.invariant in
     let e = c.in_ok-join.ensures in
-    let f = rules_of c.args.session.now.standing in
-    let r = behind_same f (rules_of c.parties.session.standing) c.parties.session.log.items c.join.new.self.log.items 0 (call.Join (get_or c.args.present.now c.parties.p-index 0)) _ (same_rules _ _ i.same) e.reply e.log in
+    let ps = c.args.present.now in
+    let k = c.parties.p-index in
+    let there = one_there (map joins ps) joins ps k 0 c.args.session.now c.parties.session c.parties-test.true i.doing in
     record {
-      whole = join_on f 0 _ _ _ c.args.present.now c.parties.p-index c.parties-test.true r i.whole;
-      grows = begins_more _ _ _ i.grows (begins_append _ _ _ e.log);
-      same = same_then _ _ _ i.same e.setting;
-      roll = e.roll ∙ i.roll;
-      most = e.most ∙ i.most;
+      about = e.about ∙ i.about;
+      doing = calls_on (map joins ps) (map joins (drop (k + 1) ps)) (joins (get_or ps k 0)) (call.Join (get_or ps k 0)) _ c.args.session.now c.parties.session c.join.new.self there refl refl e.made;
     }
 
-pub returns-clause-run : goal.returns-clause-run
-returns-clause-run g c = join_end _ 0 _ _ c.args.present.now c.parties.p-index (omega arith) c.parties.invariant.whole
+pub returns-clause-done : goal.returns-clause-done
+returns-clause-done g c =
+    let ps = c.args.present.now in
+    none_there (map joins ps) joins ps c.parties.p-index c.args.session.now c.parties.session (omega arith) c.parties.invariant.doing
 
 pub returns-in_err-join-clause-stopped : goal.returns-in_err-join-clause-stopped
 returns-in_err-join-clause-stopped g c =
-    on_err c.from_residual.result _ (joins_stop (rules_of c.args.session.now.standing) 0 _ _ _ _ c.in_err-join.ensures.nothing_logged c.parties.invariant.whole)
+    let i = c.parties.invariant in
+    let e = c.in_err-join.ensures in
+    let old = c.args.session.now in
+    let mid = c.parties.session in
+    let new = c.join.new.self in
+    let ps = c.args.present.now in
+    let k = c.parties.p-index in
+    let there = one_there (map joins ps) joins ps k 0 old mid c.parties-test.true i.doing in
+    if_err c.from_residual.result _ (BrokeOff (map joins ps) old new) c.from_residual.ensures.1
+    (stops_on (map joins ps) (map joins (drop (k + 1) ps)) (joins (get_or ps k 0)) (call.Join (get_or ps k 0)) _ old mid new i.about there refl e.stopped (err_spent _ _ e.spent))

@@ -1,21 +1,32 @@
-use Rattle.std.proofs.Common.{◌≡◌, ◌∙◌, ap, subst}
-use Rattle.session_rules.specs.declared.fixed.Fixed.{Fixed}
-use Rattle.session_rules.specs.Lanes.{Run, settled}
-use Rattle.session_state.specs.Standings.{rules_of}
-use Rattle.lane_workers.specs.Acting.{run_behind}
-use Rattle.lane_workers.proofs.Bringing.{same_rules}
-use Rattle.session_state.proofs.Joins.{on_err}
-use Rattle.lane_workers.proofs.Stopping.{joining_stops}
+use Rattle.std.proofs.Common.{sym, subst}
+use Rattle.session_core.specs.Sessions.{Known}
+use Rattle.lane_workers.specs.Acting.{AreParties}
+use Rattle.lane_workers.specs.Doing.{StoppedServing}
+use Rattle.lane_workers.proofs.Going.{if_err, known_is}
+use Rattle.lane_workers.proofs.Settled.{joined_settled, joining_stopped, settling_stopped}
 use Rattle.lane_workers.proofs.joining.serial.Goals as goal
 
-pub returns-clause-run : goal.returns-clause-run
-returns-clause-run g c =
+pub settle-requires-clause-parties : goal.settle-requires-clause-parties
+settle-requires-clause-parties g c κs within =
+    subst (λ (z : Known). AreParties g.P.Party z c.args.parties.now) (sym (known_is c.args.session.now c.join_all.new.session c.in_ok-join_all.ensures.about)) c.requires.parties
+
+pub returns-clause-done : goal.returns-clause-done
+returns-clause-done g c =
     let a = c.in_ok-join_all.ensures in
-    let b = c.in_ok-settle.ensures in
-    let f = rules_of c.args.session.now.standing in
-    let mid = c.join_all.new.session in
-    let off = subst (λ (z : Fixed). c.settle.new.session.log.items ≡ (settled z 0 (run_behind z mid.log.items)).log) (same_rules _ _ a.same) b.run in
-    off ∙ ap (λ (z : Run). (settled f 0 z).log) a.run
+    joined_settled c.args.present.now c.args.session.now c.join_all.new.session c.settle.new.session a.about a.done c.in_ok-settle.ensures.done
 
 pub returns-in_err-join_all-clause-stopped : goal.returns-in_err-join_all-clause-stopped
-returns-in_err-join_all-clause-stopped g c = on_err c.from_residual.result _ (joining_stops (rules_of c.args.session.now.standing) 0 _ _ c.in_err-join_all.ensures.stopped)
+returns-in_err-join_all-clause-stopped g c =
+    let old = c.args.session.now in
+    let new = c.join_all.new.session in
+    let present = c.args.present.now in
+    if_err c.from_residual.result _ (StoppedServing present old new) c.from_residual.ensures.1 (joining_stopped present _ old new c.in_err-join_all.ensures.stopped)
+
+pub returns-in_err-settle-clause-stopped : goal.returns-in_err-settle-clause-stopped
+returns-in_err-settle-clause-stopped g c =
+    let a = c.in_ok-join_all.ensures in
+    let old = c.args.session.now in
+    let mid = c.join_all.new.session in
+    let new = c.settle.new.session in
+    let present = c.args.present.now in
+    if_err c.from_residual-in_err-settle.result _ (StoppedServing present old new) c.from_residual-in_err-settle.ensures.1 (settling_stopped present _ old mid new a.about a.done c.in_err-settle.ensures.stopped)

@@ -1,52 +1,46 @@
-use Rattle.std.proofs.Common.{◌≡◌, ◌∙◌, sym, ap, subst, refl, get_or, arith}
-use Rattle.session_rules.specs.declared.fixed.Fixed.{Fixed}
-use Rattle.session_rules.specs.Lanes.{shared}
-use Rattle.session_state.specs.Standings.{rules_of}
-use Rattle.lane_workers.specs.Acting.{run_behind}
-use Rattle.lane_workers.proofs.Growth.{share_on, share_end}
-use Rattle.lane_workers.proofs.Bringing.{same_then, same_rules, able_still, seeds_still, honest_still}
-use Rattle.session_state.proofs.Joins.{on_err}
-use Rattle.lane_workers.proofs.Stopping.{begins_same, begins_more, shares_stop}
+use Rattle.std.proofs.Common.{◌∙◌, sym, subst, refl, ◌+◌, [], ◌∷◌, map, drop, get_or, arith}
+use Rattle.session_rules.specs.Tasks.{shares}
+use Rattle.session_core.specs.Sessions.{Known}
+use Rattle.lane_workers.specs.Acting.{Acts}
+use Rattle.lane_workers.specs.Doing.{BrokeOff}
+use Rattle.lane_workers.proofs.Going.{if_err, known_is, begins, does_on, stops_in, one_there, none_there}
 use Rattle.lane_workers.proofs.sending.share_all.Goals as goal
 
 pub ids-init : goal.ids-init
-ids-init g c = record { whole = refl; grows = begins_same _ _ refl; same = record { setting = refl; params = refl }; roll = refl; most = refl }
+ids-init g c = record { about = refl; doing = begins (map (shares (g.P.Party.number c.args.party.now)) c.args.ids.now) c.args.session.now }
 
-pub share-requires-clause-ring : goal.share-requires-clause-ring
-share-requires-clause-ring g c κs within = c.requires.ring ∙ sym c.ids.invariant.same.params
-
-pub share-requires-clause-able : goal.share-requires-clause-able
-share-requires-clause-able g c κs within = able_still _ _ _ _ _ c.ids.invariant.same c.requires.able
-
-pub share-requires-clause-told : goal.share-requires-clause-told
-share-requires-clause-told g c κs within = λ t.
-    let i = c.ids.invariant in
-    honest_still c.args.session.now.standing c.ids.session.standing _ _ _ _ _ _ _ i.same (seeds_still _ _ _ _ i.same (ap g.R.Roll.seed i.roll)) (c.requires.told (ap g.R.Roll.tells (sym i.roll) ∙ t))
-
-pub returns-in_err-share-clause-same : goal.returns-in_err-share-clause-same
-returns-in_err-share-clause-same g c = same_then _ _ _ c.ids.invariant.same c.share.ensures.same
+pub share-requires-clause-party : goal.share-requires-clause-party
+share-requires-clause-party g c κs within =
+    subst (λ (z : Known). Acts g.P.Party z c.args.party.now) (sym (known_is c.args.session.now c.ids.session c.ids.invariant.about)) c.requires.party
 
 pub ids-preserved : goal.ids-preserved
 ids-preserved g c =
     let i = c.ids.invariant in
-    let f = rules_of c.args.session.now.standing in
-    let p = g.P.Party.number c.args.party.now in
     let e = c.in_ok-share.ensures in
-    let r : run_behind f c.share.new.session.log.items ≡ shared f 0 p (run_behind f c.ids.session.log.items) (get_or c.args.ids.now c.ids.id-index 0) =
-    subst (λ (z : Fixed). run_behind z c.share.new.session.log.items ≡ shared z 0 p (run_behind z c.ids.session.log.items) (get_or c.args.ids.now c.ids.id-index 0)) (same_rules _ _ i.same) e.run in
+    let old = c.args.session.now in
+    let mid = c.ids.session in
+    let f = shares (g.P.Party.number c.args.party.now) in
+    let ids = c.args.ids.now in
+    let k = c.ids.id-index in
     record {
-      whole = share_on f 0 p _ _ _ c.args.ids.now c.ids.id-index c.ids-test.true r i.whole;
-      grows = begins_more _ _ _ i.grows e.grows;
-      same = same_then _ _ _ i.same e.same;
-      roll = e.roll ∙ i.roll;
-      most = e.most ∙ i.most;
+      about = e.about ∙ i.about;
+      doing = does_on (map f ids) (f (get_or ids k 0) ∷ []) [] (map f (drop (k + 1) ids)) old mid c.share.new.session i.about
+          (one_there (map f ids) f ids k 0 old mid c.ids-test.true i.doing) e.done;
     }
 
-pub returns-clause-run : goal.returns-clause-run
-returns-clause-run g c = share_end _ 0 _ _ _ c.args.ids.now c.ids.id-index (omega arith) c.ids.invariant.whole
+pub returns-clause-done : goal.returns-clause-done
+returns-clause-done g c =
+    let f = shares (g.P.Party.number c.args.party.now) in
+    none_there (map f c.args.ids.now) f c.args.ids.now c.ids.id-index c.args.session.now c.ids.session (omega arith) c.ids.invariant.doing
 
 pub returns-in_err-share-clause-stopped : goal.returns-in_err-share-clause-stopped
 returns-in_err-share-clause-stopped g c =
     let i = c.ids.invariant in
-    on_err c.from_residual.result _ (shares_stop (rules_of c.args.session.now.standing) (rules_of c.ids.session.standing) 0 (g.P.Party.number c.args.party.now) c.ids.session.log.items _ _ c.args.ids.now c.ids.id-index
-    (same_rules _ _ i.same) c.ids-test.true c.in_err-share.ensures.stopped i.whole)
+    let old = c.args.session.now in
+    let mid = c.ids.session in
+    let new = c.share.new.session in
+    let f = shares (g.P.Party.number c.args.party.now) in
+    let ids = c.args.ids.now in
+    let k = c.ids.id-index in
+    if_err c.from_residual.result _ (BrokeOff (map f ids) old new) c.from_residual.ensures.1
+    (stops_in (map f ids) (f (get_or ids k 0) ∷ []) (map f (drop (k + 1) ids)) _ old mid new i.about (one_there (map f ids) f ids k 0 old mid c.ids-test.true i.doing) c.in_err-share.ensures.stopped)

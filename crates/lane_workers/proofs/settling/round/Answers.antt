@@ -1,43 +1,44 @@
-use Rattle.std.proofs.Common.{◌≡◌, ◌∙◌, ap, subst, length}
+use Rattle.std.proofs.Common.{refl, [], ◌∷◌, map}
 use Rattle.share_spec.specs.Sets.{members}
-use Rattle.session_rules.specs.declared.fixed.Fixed.{Fixed}
-use Rattle.session_rules.specs.States.{State}
-use Rattle.session_rules.specs.Lanes.{Run, sent_by_all, worked_off}
-use Rattle.session_state.specs.Standings.{rules_of}
-use Rattle.lane_workers.specs.Acting.{run_behind, Begins}
-use Rattle.lane_workers.proofs.Growth.{round_is}
-use Rattle.lane_workers.proofs.Bringing.{same_rules}
-use Rattle.session_state.proofs.Joins.{on_err}
-use Rattle.lane_workers.proofs.Stopping.{begins_run, sending_stops}
+use Rattle.session_rules.specs.Tasks.{exhausts}
+use Rattle.session_rules.specs.Courses.{sends, round_tasks}
+use Rattle.session_core.specs.Calls.{state_of}
+use Rattle.lane_workers.specs.Doing.{BrokeOff}
+use Rattle.lane_workers.proofs.Going.{if_err, begins, does_on, does_rest, told_so, stops_in, stops_rest}
+use Rattle.run_laws.proofs.MoreRounds.{round_is}
 use Rattle.lane_workers.proofs.settling.round.Goals as goal
 
-pub returns-clause-run : goal.returns-clause-run
-returns-clause-run g c =
+pub returns-clause-done : goal.returns-clause-done
+returns-clause-done g c =
     let old = c.args.session.now in
-    let f = rules_of old.standing in
+    let mid = c.send_by_all.new.session in
+    let new = c.work_off.new.session in
+    let s = state_of old in
+    let ts = round_tasks s in
     let a = c.in_ok-send_by_all.ensures in
     let b = c.in_ok-work_off.ensures in
-    let r = run_behind f old.log.items in
-    let mid = c.send_by_all.new.session in
-    let off = subst (λ (z : Fixed). run_behind z c.work_off.new.session.log.items ≡ worked_off (length z.plans) z 0 (run_behind z mid.log.items)) (same_rules _ _ a.same) b.run in
-    off ∙ ap (λ (z : Run). worked_off (length f.plans) f 0 z) (a.run ∙ ap (λ (z : State). sent_by_all f 0 r (members z.present)) old.state_is) ∙ round_is f 0 r
+    let us = map sends (members s.present) in
+    let start = told_so ts ts _ old old (round_is s) (begins ts old) in
+    let sent = does_on ts us [] (exhausts ∷ []) old old mid refl start a.done in
+    does_rest ts (exhausts ∷ []) old mid new a.about sent b.done
 
 pub returns-in_err-send_by_all-clause-stopped : goal.returns-in_err-send_by_all-clause-stopped
 returns-in_err-send_by_all-clause-stopped g c =
     let old = c.args.session.now in
-    let f = rules_of old.standing in
-    let r = run_behind f old.log.items in
-    let now = c.send_by_all.new.session.log.items in
-    on_err c.from_residual.result _ (sending_stops f 0 r now (subst (λ (z : State). Begins now (sent_by_all f 0 r (members z.present)).log) old.state_is c.in_err-send_by_all.ensures.stopped))
+    let new = c.send_by_all.new.session in
+    let s = state_of old in
+    let ts = round_tasks s in
+    if_err c.from_residual.result _ (BrokeOff ts old new) c.from_residual.ensures.1
+    (stops_in ts (map sends (members s.present)) (exhausts ∷ []) _ old old new refl (told_so ts ts _ old old (round_is s) (begins ts old)) c.in_err-send_by_all.ensures.stopped)
 
 pub returns-in_err-work_off-clause-stopped : goal.returns-in_err-work_off-clause-stopped
 returns-in_err-work_off-clause-stopped g c =
     let old = c.args.session.now in
-    let f = rules_of old.standing in
-    let a = c.in_ok-send_by_all.ensures in
-    let r = run_behind f old.log.items in
     let mid = c.send_by_all.new.session in
-    let now = c.work_off.new.session.log.items in
-    let here = subst (λ (z : Fixed). Begins now (worked_off (length z.plans) z 0 (run_behind z mid.log.items)).log) (same_rules _ _ a.same) c.in_err-work_off.ensures.stopped in
-    on_err c.from_residual-in_err-work_off.result _
-    (begins_run now (worked_off (length f.plans) f 0 (run_behind f mid.log.items)) _ here (ap (λ (z : Run). worked_off (length f.plans) f 0 z) (a.run ∙ ap (λ (z : State). sent_by_all f 0 r (members z.present)) old.state_is) ∙ round_is f 0 r))
+    let new = c.work_off.new.session in
+    let s = state_of old in
+    let ts = round_tasks s in
+    let a = c.in_ok-send_by_all.ensures in
+    let sent = does_on ts (map sends (members s.present)) [] (exhausts ∷ []) old old mid refl (told_so ts ts _ old old (round_is s) (begins ts old)) a.done in
+    if_err c.from_residual-in_err-work_off.result _ (BrokeOff ts old new) c.from_residual-in_err-work_off.ensures.1
+    (stops_rest ts (exhausts ∷ []) _ old mid new a.about sent c.in_err-work_off.ensures.stopped)

@@ -2,17 +2,14 @@ use Rattle.std.proofs.Common.{◌≡◌, ◌∙◌, sym, ap, subst, refl, ℕ, �
 use Rattle.std.specs.List.{range_with_len}
 use Rattle.std.proofs.lemmas.List.{drop_all, drop_more}
 use Rattle.share_spec.specs.Sets.{has, members, members_to}
-use Rattle.session_rules.specs.declared.fixed.Fixed.{Fixed}
-use Rattle.session_rules.specs.Lanes.{Run, sent, sent_by_all}
-use Rattle.session_state.specs.Standings.{rules_of, setting, state}
-use Rattle.party_roll.specs.Seeds.{seeds_told}
-use Rattle.lane_workers.specs.Acting.{run_behind, CanAct, IsHonestParty}
-use Rattle.lane_workers.proofs.Growth.{here_on, away_on, sends_end}
-use Rattle.lane_workers.proofs.Bringing.{same_then, same_rules, able_still, seeds_still, honest_still}
 use Rattle.proto_names.proofs.Members.{members_all}
-use Rattle.lane_workers.proofs.Present.{members_up_to}
-use Rattle.session_state.proofs.Joins.{on_err}
-use Rattle.lane_workers.proofs.Stopping.{begins_same, begins_more, sends_stop}
+use Rattle.session_rules.specs.Courses.{sends}
+use Rattle.session_core.specs.Sessions.{Known}
+use Rattle.session_core.specs.Calls.{known, state_of}
+use Rattle.lane_workers.specs.Acting.{Acts}
+use Rattle.lane_workers.specs.Doing.{Doing, BrokeOff}
+use Rattle.lane_workers.proofs.Going.{if_err, known_is, begins, does_on, told_so, stops_in}
+use Rattle.lane_workers.proofs.Present.{members_up_to, here_on, away_on}
 use Rattle.lane_workers.proofs.settling.send_by_all.Goals as goal
 use Rattle.lane_workers.proofs.settling.send_by_all.Goals.{then-has+in_ok-send, else-has}
 
@@ -20,97 +17,81 @@ in_range : (set n : ℕ) → filter (has set) (range_with_len 1 n) ≡ members_t
 unfolding members_to
 in_range set n = refl
 
-pub send-requires-clause-ring : goal.send-requires-clause-ring
-send-requires-clause-ring g c κs within = c.requires.ring ∙ sym c.parties.invariant.same.params
-
-pub send-requires-clause-able : goal.send-requires-clause-able
-send-requires-clause-able g c κs within =
-    let st = c.args.session.now.standing in
-    able_still _ _ _ _ _ c.parties.invariant.same
-    (subst (λ z. CanAct st.params (setting st) (g.P.Party.params z) (g.P.Party.number z) (g.P.Party.values z)) (sym c.party-item.is) (c.requires.able c.parties.party-index c.party-item.result c.parties-test.true))
-
-pub returns-in_err-send-clause-same : goal.returns-in_err-send-clause-same
-returns-in_err-send-clause-same g c = same_then _ _ _ c.parties.invariant.same c.send.ensures.same
-
-pub returns-clause-run : goal.returns-clause-run
-returns-clause-run g c =
-    let i = c.parties.invariant in
-    let f = rules_of c.args.session.now.standing in
-    let r = run_behind f c.parties.session.log.items in
-    let none : drop c.parties.party-index c.args.parties.now ≡ [] = drop_all c.parties.party-index c.args.parties.now (omega arith) in
-    sym (sends_end f 0 r) ∙ ap (λ z. sent_by_all f 0 r (filter (has c.present-present.result.bits) (map g.P.Party.number z))) (sym none) ∙ i.whole
-
 pub parties-init : goal.parties-init
 parties-init g c =
-    let st = c.args.session.now.standing in
-    let f = rules_of st in
-    let set = (state st).present in
-    let n = st.params.parties in
-    let within : (p : ℕ) → has set p ≡ true → p ≤ n = c.args.session.now.parties in
-    let most : n ≤ 32 = st.params.group.2 in
+    let old = c.args.session.now in
+    let set = (state_of old).present in
+    let n = (known old).params.parties in
+    let most : n ≤ 32 = old.standing.params.group.2 in
     let all : n + (32 - n) ≡ 32 = omega (arith, most) in
     let here : filter (has c.present-present.result.bits) (map g.P.Party.number c.args.parties.now) ≡ members set =
-    ap (λ (z : ℕ). filter (has z) (map g.P.Party.number c.args.parties.now)) c.present-present.ensures ∙ ap (filter (has set)) c.requires.numbers
-    ∙ in_range set n ∙ sym (members_up_to set n (32 - n) within) ∙ ap (λ (z : ℕ). members_to z set) all ∙ sym (members_all set) in
-    record { whole = ap (sent_by_all f 0 (run_behind f c.args.session.now.log.items)) here; grows = begins_same _ _ refl; same = record { setting = refl; params = refl }; roll = refl; most = refl }
+    ap (λ (z : ℕ). filter (has z) (map g.P.Party.number c.args.parties.now)) c.present-present.ensures ∙ ap (filter (has set)) c.requires.parties.numbers
+    ∙ in_range set n ∙ sym (members_up_to set n (32 - n) old.sound.parties) ∙ ap (λ (z : ℕ). members_to z set) all ∙ sym (members_all set) in
+    record { about = refl; doing = told_so (map sends (members set)) (map sends (members set)) _ old old (ap (map sends) (sym here)) (begins (map sends (members set)) old) }
 
-pub send-requires-clause-told : goal.send-requires-clause-told
-send-requires-clause-told g c κs within = λ t.
-    let i = c.parties.invariant in
-    let old = c.args.session.now in
-    let st = old.standing in
-    honest_still st c.parties.session.standing _ _ _ _ _ _ _ i.same (seeds_still _ _ _ _ i.same (ap g.R.Roll.seed i.roll))
-    (subst (λ z. IsHonestParty (setting st) (seeds_told (g.R.Roll.seed old.roll) st.params.parties) (g.P.Party.tells z) (g.P.Party.public z) (g.P.Party.seeds z) (g.P.Party.number z) (g.P.Party.values z)) (sym c.party-item.is)
-    (c.requires.told (ap g.R.Roll.tells (sym i.roll) ∙ t) c.parties.party-index c.party-item.result c.parties-test.true))
+pub send-requires-clause-party : goal.send-requires-clause-party
+send-requires-clause-party g c κs within =
+    let k = known c.args.session.now in
+    subst (λ (z : Known). Acts g.P.Party z c.party-item.result) (sym (known_is c.args.session.now c.parties.session c.parties.invariant.about))
+    (subst (λ z. Acts g.P.Party k z) (sym c.party-item.is) (c.requires.parties.each c.parties.party-index c.party-item.result c.parties-test.true))
 
 pub parties-preserved : goal.parties-preserved
 parties-preserved g c =
     let i = c.parties.invariant in
-    let f = rules_of c.args.session.now.standing in
+    let old = c.args.session.now in
+    let mid = c.parties.session in
     let ps = c.args.parties.now in
     let k = c.parties.party-index in
     let x = c.party-item.result in
     let bits = c.present-present.result.bits in
-    let r = run_behind f c.parties.session.log.items in
-    let rest = map g.P.Party.number (drop (k + 1) ps) in
-    let n = g.P.Party.number x in
+    let number = g.P.Party.number in
+    let ts = map sends (members (state_of old).present) in
+    let rest = map sends (filter (has bits) (map number (drop (k + 1) ps))) in
+    let n = number x in
     let next : drop k ps ≡ x ∷ drop (k + 1) ps = drop_more ps k x c.parties-test.true ∙ ap (λ z. z ∷ drop (k + 1) ps) (sym c.party-item.is) in
-    let whole = ap (λ z. sent_by_all f 0 r (filter (has bits) (map g.P.Party.number z))) (sym next) ∙ i.whole in
+    let doing = subst (λ z. Doing ts (map sends (filter (has bits) (map number z))) old mid) next i.doing in
     elim c.if-has.branch [
       | then-has+in_ok-send w ↦
           let e = w.in_ok-send.ensures in
-          let t = subst (λ (z : Fixed). run_behind z w.send.new.session.log.items ≡ sent z 0 n (run_behind z c.parties.session.log.items)) (same_rules _ _ i.same) e.run in
+          let new = w.send.new.session in
           let here : has bits n ≡ true = ap (has bits) (sym c.number.ensures) ∙ sym w.if-has.ensures in
           record {
-            whole = rw w.session-is (ap (λ (z : Run). sent_by_all f 0 z (filter (has bits) rest)) t ∙ sym (here_on f 0 bits n r rest here) ∙ whole);
-            grows = rw w.session-is (begins_more c.args.session.now.log.items c.parties.session.log.items w.send.new.session.log.items i.grows e.grows);
-            same = rw w.session-is (same_then _ _ _ i.same e.same);
-            roll = rw w.session-is (e.roll ∙ i.roll);
-            most = rw w.session-is (e.most ∙ i.most);
+            about = rw w.session-is (e.about ∙ i.about);
+            doing = rw w.session-is (does_on ts (sends n ∷ []) [] rest old mid new i.about
+                (told_so ts _ (sends n ∷ rest) old mid (here_on bits n (map number (drop (k + 1) ps)) here) doing) e.done);
           }
       | else-has w ↦
           let away : has bits n ≡ false = ap (has bits) (sym c.number.ensures) ∙ sym w.if-has.ensures in
           record {
-            whole = rw w.session-is (sym (away_on f 0 bits n r rest away) ∙ whole);
-            grows = rw w.session-is i.grows;
-            same = rw w.session-is i.same;
-            roll = rw w.session-is i.roll;
-            most = rw w.session-is i.most;
+            about = rw w.session-is i.about;
+            doing = rw w.session-is (told_so ts _ rest old mid (away_on bits n (map number (drop (k + 1) ps)) away) doing);
           }
     ]
+
+pub returns-clause-done : goal.returns-clause-done
+returns-clause-done g c =
+    let old = c.args.session.now in
+    let mid = c.parties.session in
+    let ts = map sends (members (state_of old).present) in
+    let none : drop c.parties.party-index c.args.parties.now ≡ [] = drop_all c.parties.party-index c.args.parties.now (omega arith) in
+    subst (λ z. Doing ts (map sends (filter (has c.present-present.result.bits) (map g.P.Party.number z))) old mid) none c.parties.invariant.doing
 
 pub returns-in_err-send-clause-stopped : goal.returns-in_err-send-clause-stopped
 returns-in_err-send-clause-stopped g c =
     let i = c.parties.invariant in
-    let f = rules_of c.args.session.now.standing in
+    let old = c.args.session.now in
+    let mid = c.parties.session in
+    let new = c.send.new.session in
     let ps = c.args.parties.now in
     let k = c.parties.party-index in
     let x = c.party-item.result in
     let bits = c.present-present.result.bits in
-    let r = run_behind f c.parties.session.log.items in
-    let rest = map g.P.Party.number (drop (k + 1) ps) in
-    let n = g.P.Party.number x in
+    let number = g.P.Party.number in
+    let ts = map sends (members (state_of old).present) in
+    let rest = map number (drop (k + 1) ps) in
     let next : drop k ps ≡ x ∷ drop (k + 1) ps = drop_more ps k x c.parties-test.true ∙ ap (λ z. z ∷ drop (k + 1) ps) (sym c.party-item.is) in
-    let here : has bits n ≡ true = ap (has bits) (sym c.number.ensures) ∙ sym c.if-has.ensures in
-    on_err c.from_residual.result _ (sends_stop f (rules_of c.parties.session.standing) 0 n c.parties.session.log.items _ _ (filter (has bits) rest) (same_rules _ _ i.same) c.in_err-send.ensures.stopped
-    (sym (here_on f 0 bits n r rest here) ∙ ap (λ z. sent_by_all f 0 r (filter (has bits) (map g.P.Party.number z))) (sym next) ∙ i.whole))
+    let doing = subst (λ z. Doing ts (map sends (filter (has bits) (map number z))) old mid) next i.doing in
+    let here : has bits (number x) ≡ true = ap (has bits) (sym c.number.ensures) ∙ sym c.if-has.ensures in
+    if_err c.from_residual.result _ (BrokeOff ts old new) c.from_residual.ensures.1
+    (stops_in ts (sends (number x) ∷ []) (map sends (filter (has bits) rest)) _ old mid new i.about (told_so ts _ (sends (number x) ∷ map sends (filter (has bits) rest)) old mid (here_on bits (number x) rest here) doing)
+    c.in_err-send.ensures.stopped)

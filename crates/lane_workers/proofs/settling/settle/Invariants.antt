@@ -1,17 +1,12 @@
--- The rounds made and those that are left are all, and nothing else has changed.
+-- Rounds are made, and others may follow.
 use Rattle.std.proofs.Common.{◌≡◌, ◌-◌}
-use Rattle.session_rules.specs.Lanes.{rounds}
-use Rattle.session_state.specs.Standings.{rules_of}
-use Rattle.session_core.specs.Sessions.{IsSameSetting}
-use Rattle.lane_workers.specs.Acting.{run_behind, Begins}
+use Rattle.session_core.specs.Calls.{about}
+use Rattle.lane_workers.specs.Doing.{Acted, rules_for, state_behind}
+use Rattle.run_laws.proofs.MoreRounds.{SoFar}
 use Rattle.lane_workers.proofs.settling.settle.Given as goal
 
 abbrev pub invariant-rounds : goal.invariant-rounds
 invariant-rounds g l = record {
-  whole : rounds (6 - l.counter) (rules_of l.fn.session.standing) 0 (run_behind (rules_of l.fn.session.standing) l.session.log.items)
-      ≡ rounds 6 (rules_of l.fn.session.standing) 0 (run_behind (rules_of l.fn.session.standing) l.fn.session.log.items);
-  grows : Begins l.fn.session.log.items l.session.log.items;
-  same : IsSameSetting l.fn.session.standing l.session.standing;
-  roll : l.session.roll ≡ l.fn.session.roll;
-  most : l.session.max_calls ≡ l.fn.session.max_calls;
+  about : about l.session ≡ about l.fn.session;
+  made : Acted (SoFar (6 - l.counter) (rules_for l.fn.session) (state_behind l.fn.session)) l.fn.session.log.items l.session.log.items;
 }

@@ -1,76 +1,114 @@
-use Rattle.std.proofs.Common.{◌≡◌, ◌∙◌, sym, ap, refl, Some, None}
+use Rattle.std.proofs.Common.{◌≡◌, ◌∙◌, sym, ap, subst, refl, [], ◌∷◌, Some, None}
 use Rattle.noise_ledger.specs.Bounds.{numbers_of}
+use Rattle.param_set.specs.declared.params.Params.{Params}
+use Rattle.bfv_core.specs.Fits.{CipherFits}
 use Rattle.circuit_runner.specs.declared.job.Job.{Job}
-use Rattle.party_roll.specs.Seeds.{seeds_told}
 use Rattle.session_rules.specs.declared.call.Call.TheVariants as call
 use Rattle.session_rules.specs.declared.reply.Reply.TheVariants as reply
+use Rattle.session_rules.specs.declared.fixed.Fixed.{Fixed}
 use Rattle.session_rules.specs.States.{State}
-use Rattle.session_rules.specs.Histories.{state_after}
-use Rattle.session_rules.specs.Lanes.{Run, called, job}
+use Rattle.session_rules.specs.Steps.{step}
+use Rattle.session_rules.specs.Tasks.{finishes, exhausts, job}
 use Rattle.session_spec.specs.Settings.{rules}
 use Rattle.session_spec.specs.Outputs.{key_in, inputs_of}
-use Rattle.session_state.specs.Standings.{setting, rules_of, state, store}
 use Rattle.session_state.specs.Handed.{IsJobFor}
-use Rattle.lane_workers.specs.Acting.{run_behind}
-use Rattle.lane_workers.proofs.Growth.{behind, behind_same, no_work, one_work}
-use Rattle.lane_workers.proofs.Bringing.{at_some, take_issues, output_brought, seeds_still}
-use Rattle.session_state.proofs.Joins.{on_err}
-use Rattle.lane_workers.proofs.Stopping.{work_waits, work_stops}
+use Rattle.session_core.specs.Sessions.{Known, BringsOutputTo}
+use Rattle.session_core.specs.Calls.{known, state_of, store_of}
+use Rattle.session_core.specs.declared.stop.Stop.TheVariants.{NoMemory}
+use Rattle.lane_workers.specs.Doing.{BrokeOff, rules_for, state_behind}
+use Rattle.lane_workers.proofs.Going.{if_err, err_spent, known_is, begins, calls_on, stops_on, lacks_on}
+use Rattle.lane_workers.proofs.Asking.{job_owed, no_job_owed}
+use Rattle.run_laws.proofs.Idle.{fewer_idle, take_issues}
+use Rattle.lane_workers.proofs.Bringing.{at_some, output_brought}
 use Rattle.lane_workers.proofs.working.work.Goals as goal
 
-pub finish-requires-clause-honest : goal.finish-requires-clause-honest
-finish-requires-clause-honest g c κs within = λ t done.
+pub finish-requires-clause-ct : goal.finish-requires-clause-ct
+finish-requires-clause-ct g c κs within =
     let b = c.in_ok-job.ensures in
     let old = c.args.session.now in
-    let new = c.take.new.self in
-    let st = old.standing in
-    let f = rules_of st in
-    let w = setting st in
+    let mid = c.take.new.self in
+    let k = known old in
     let j = c.in-Some.job in
     let o = c.in_ok-job.field-0.job in
-    let seeds = seeds_told (g.R.Roll.seed old.roll) st.params.parties in
-    let key = key_in w seeds (state st).instances in
     let e : o ≡ Some j = let x = c.in_ok-job.job-is in let y = c.in-Some.is in cc in
-    let its = at_some (λ (z : Job). IsJobFor w (store st) z.number z) o j e b.circuit in
-    let inputs = at_some (λ (z : Job). z.inputs ≡ inputs_of w seeds key z.number) o j e (b.inputs (ap g.R.Roll.tells (sym b.roll) ∙ t)) in
-    let same = ap (λ (z : State). z.instances) b.state ∙ take_issues f (state_after f old.log.items) 0 ∙ ap (λ (z : State). z.instances) (sym old.state_is) in
-    output_brought w (setting new.standing) seeds (seeds_told (g.R.Roll.seed new.roll) new.standing.params.parties) (state st).instances (state new.standing).instances j.number c.in_ok-ct-in-Some.ct j.inputs j.circuit.value
-    c.args.ring.now.params b.setting.setting (seeds_still st new.standing _ _ b.setting (ap g.R.Roll.seed b.roll)) same (ap numbers_of (sym c.requires.ring)) inputs its.circuit c.in_ok-ct-in-Some.ensures.value
+    let ct = c.in_ok-ct-in-Some.ct in
+    let its = at_some (λ (z : Job). IsJobFor k.setting (store_of old) z.number z) o j e b.job.circuit in
+    let stays = ap (λ (z : State). z.instances) b.made.state ∙ take_issues (rules_for old) (state_behind old) ∙ ap (λ (z : State). z.instances) (sym old.state_is) in
+    subst (λ (z : Known). BringsOutputTo z (state_of mid) 0 j.number ct) (sym (known_is old mid b.about)) (record {
+      fits = subst (λ (z : Params). CipherFits z.q z.n ct) c.requires.ring c.in_ok-ct-in-Some.ensures.fits;
+      honest = λ t done.
+          let inputs = at_some (λ (z : Job). z.inputs ≡ inputs_of k.setting k.seeds (key_in k.setting k.seeds (state_of old).instances) z.number) o j e (b.job.honest t) in
+          output_brought k.setting k.seeds (state_of mid).instances j.number ct j.inputs j.circuit.value c.args.ring.now.params (ap numbers_of (sym c.requires.ring))
+          (inputs ∙ ap (λ z. inputs_of k.setting k.seeds (key_in k.setting k.seeds z) j.number) (sym stays)) its.circuit c.in_ok-ct-in-Some.ensures.value;
+    })
 
-pub returns-in-None-clause-run : goal.returns-in-None-clause-run
-returns-in-None-clause-run g c =
+pub returns-in-None-clause-done : goal.returns-in-None-clause-done
+returns-in-None-clause-done g c =
     let b = c.in_ok-job.ensures in
     let old = c.args.session.now in
-    let f = rules_of old.standing in
+    let mid = c.take.new.self in
+    let r = c.in_ok-job.field-0.reply in
     let e : c.in_ok-job.field-0.job ≡ None = let x = c.in_ok-job.job-is in let y = c.in-None.is in cc in
-    behind f old.log.items c.take.new.self.log.items 0 call.Take c.in_ok-job.field-0.reply b.reply b.log ∙ no_work f 0 (run_behind f old.log.items) (ap job (sym b.reply ∙ b.none e))
+    record { does = no_job_owed r old old mid (begins (exhausts ∷ []) old) b.made (ap job (b.job.none e)); fewer = λ never. cc }
 
-pub returns-in_ok-finish-in-Some-clause-run : goal.returns-in_ok-finish-in-Some-clause-run
-returns-in_ok-finish-in-Some-clause-run g c =
+pub returns-in_ok-finish-in-Some-clause-done : goal.returns-in_ok-finish-in-Some-clause-done
+returns-in_ok-finish-in-Some-clause-done g c =
     let b = c.in_ok-job.ensures in
     let d = c.in_ok-finish-in-Some.ensures in
     let old = c.args.session.now in
-    let new = c.take.new.self in
-    let f = rules_of old.standing in
+    let mid = c.take.new.self in
+    let new = c.finish.new.self in
+    let r = c.in_ok-job.field-0.reply in
     let j = c.in-Some.job in
     let o = c.in_ok-job.field-0.job in
     let e : o ≡ Some j = let x = c.in_ok-job.job-is in let y = c.in-Some.is in cc in
-    let it = at_some (λ (z : Job). c.in_ok-job.field-0.reply ≡ reply.Job z.number) o j e b.job in
-    let asked = behind f old.log.items new.log.items 0 call.Take c.in_ok-job.field-0.reply b.reply b.log in
-    let given = behind_same f (rules_of new.standing) new.log.items c.finish.new.self.log.items 0 (call.Finish j.number) _ (ap rules b.setting.setting) d.reply d.log in
-    given ∙ ap (λ (z : Run). called f 0 z (call.Finish j.number)) asked ∙ one_work f 0 (run_behind f old.log.items) j.number (ap job (sym b.reply ∙ it))
+    let it : job r ≡ Some j.number = ap job (at_some (λ (z : Job). r ≡ reply.Job z.number) o j e b.job.job) in
+    let one = job_owed j.number r old old mid (begins (exhausts ∷ []) old) b.made it in
+    let same = ap (λ (z : Known). rules z.setting) (known_is old mid b.about) in
+    let f = rules_for old in
+    let finished : state_of new ≡ (step f (state_of mid) 0 (call.Finish j.number)).1 =
+    d.made.state ∙ ap (λ (z : State). (step (rules_for mid) z 0 (call.Finish j.number)).1) (sym mid.state_is) ∙ ap (λ (z : Fixed). (step z (state_of mid) 0 (call.Finish j.number)).1) same in
+    let taken : state_of mid ≡ (step f (state_of old) 0 call.Take).1 = b.made.state ∙ ap (λ (z : State). (step f z 0 call.Take).1) (sym old.state_is) in
+    let answered : job (step f (state_of old) 0 call.Take).0 ≡ Some j.number = ap (λ (z : State). job (step f z 0 call.Take).0) old.state_is ∙ ap job (sym b.made.reply) ∙ it in
+    record {
+      does = calls_on (exhausts ∷ []) (exhausts ∷ []) (finishes j.number) (call.Finish j.number) _ old mid new one refl refl d.made;
+      fewer = λ more. fewer_idle f (state_of old) (state_of mid) (state_of new) j.number answered taken finished;
+    }
 
 pub returns-in_err-job-clause-stopped : goal.returns-in_err-job-clause-stopped
-returns-in_err-job-clause-stopped g c = on_err c.from_residual.result _ (work_waits (rules_of c.args.session.now.standing) 0 c.args.session.now.log.items _ c.in_err-job.ensures.nothing_logged)
+returns-in_err-job-clause-stopped g c =
+    let old = c.args.session.now in
+    let new = c.take.new.self in
+    let e = c.in_err-job.ensures in
+    if_err c.from_residual.result _ (BrokeOff (exhausts ∷ []) old new) c.from_residual.ensures.1
+    (stops_on (exhausts ∷ []) [] exhausts call.Take _ old old new refl (begins (exhausts ∷ []) old) refl e.stopped (err_spent _ _ e.spent))
 
 pub returns-in_err-ct-in-Some-clause-stopped : goal.returns-in_err-ct-in-Some-clause-stopped
 returns-in_err-ct-in-Some-clause-stopped g c =
     let b = c.in_ok-job.ensures in
-    on_err c.from_residual-in_err-ct-in-Some.result _
-    (work_stops (rules_of c.args.session.now.standing) c.args.session.now.log.items c.take.new.self.log.items _ c.in_ok-job.field-0.reply b.reply b.log refl)
+    let old = c.args.session.now in
+    let mid = c.take.new.self in
+    let r = c.in_ok-job.field-0.reply in
+    let j = c.in-Some.job in
+    let o = c.in_ok-job.field-0.job in
+    let e : o ≡ Some j = let x = c.in_ok-job.job-is in let y = c.in-Some.is in cc in
+    let it : job r ≡ Some j.number = ap job (at_some (λ (z : Job). r ≡ reply.Job z.number) o j e b.job.job) in
+    let owed = job_owed j.number r old old mid (begins (exhausts ∷ []) old) b.made it in
+    if_err c.from_residual-in_err-ct-in-Some.result NoMemory (BrokeOff (exhausts ∷ []) old mid) c.from_residual-in_err-ct-in-Some.ensures.1
+    (lacks_on (exhausts ∷ []) (exhausts ∷ []) (finishes j.number) (call.Finish j.number) NoMemory old mid owed refl refl refl)
 
 pub returns-in_err-finish-in-Some-clause-stopped : goal.returns-in_err-finish-in-Some-clause-stopped
 returns-in_err-finish-in-Some-clause-stopped g c =
     let b = c.in_ok-job.ensures in
-    on_err c.from_residual-in_err-finish-in-Some.result _
-    (work_stops (rules_of c.args.session.now.standing) c.args.session.now.log.items c.take.new.self.log.items _ c.in_ok-job.field-0.reply b.reply b.log c.in_err-finish-in-Some.ensures.nothing_logged)
+    let d = c.in_err-finish-in-Some.ensures in
+    let old = c.args.session.now in
+    let mid = c.take.new.self in
+    let new = c.finish.new.self in
+    let r = c.in_ok-job.field-0.reply in
+    let j = c.in-Some.job in
+    let o = c.in_ok-job.field-0.job in
+    let e : o ≡ Some j = let x = c.in_ok-job.job-is in let y = c.in-Some.is in cc in
+    let it : job r ≡ Some j.number = ap job (at_some (λ (z : Job). r ≡ reply.Job z.number) o j e b.job.job) in
+    let owed = job_owed j.number r old old mid (begins (exhausts ∷ []) old) b.made it in
+    if_err c.from_residual-in_err-finish-in-Some.result _ (BrokeOff (exhausts ∷ []) old new) c.from_residual-in_err-finish-in-Some.ensures.1
+    (stops_on (exhausts ∷ []) (exhausts ∷ []) (finishes j.number) (call.Finish j.number) _ old mid new b.about owed refl d.stopped (err_spent _ _ d.spent))

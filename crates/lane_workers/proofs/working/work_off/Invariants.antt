@@ -1,18 +1,14 @@
--- The jobs done and those that are left are all, and nothing else has changed.
-use Rattle.std.proofs.Common.{◌≡◌, ◌-◌, length}
-use Rattle.session_rules.specs.Lanes.{worked_off}
-use Rattle.session_state.specs.Standings.{rules_of}
-use Rattle.session_core.specs.Sessions.{IsSameSetting}
-use Rattle.lane_workers.specs.Acting.{run_behind, Begins}
+-- A circuit is asked for again, and no more circuits are idle than may still be evaluated.
+use Rattle.std.proofs.Common.{◌≡◌, ◌+◌, ◌≤◌, [], ◌∷◌}
+use Rattle.session_rules.specs.Tasks.{exhausts}
+use Rattle.session_core.specs.Calls.{about, state_of}
+use Rattle.lane_workers.specs.Doing.{Doing}
+use Rattle.run_laws.specs.Leaving.{idle}
 use Rattle.lane_workers.proofs.working.work_off.Given as goal
 
 abbrev pub invariant-jobs : goal.invariant-jobs
 invariant-jobs g l = record {
-  count : l.circuits ≡ length (rules_of l.fn.session.standing).plans;
-  whole : worked_off (l.circuits - l.counter) (rules_of l.fn.session.standing) 0 (run_behind (rules_of l.fn.session.standing) l.session.log.items)
-      ≡ worked_off (length (rules_of l.fn.session.standing).plans) (rules_of l.fn.session.standing) 0 (run_behind (rules_of l.fn.session.standing) l.fn.session.log.items);
-  grows : Begins l.fn.session.log.items l.session.log.items;
-  same : IsSameSetting l.fn.session.standing l.session.standing;
-  roll : l.session.roll ≡ l.fn.session.roll;
-  most : l.session.max_calls ≡ l.fn.session.max_calls;
+  about : about l.session ≡ about l.fn.session;
+  doing : Doing (exhausts ∷ []) (exhausts ∷ []) l.fn.session l.session;
+  few : idle (state_of l.session) + l.counter ≤ l.circuits;
 }

@@ -1,0 +1,124 @@
+-- What those that act in a session have called, and where they stop.
+use Rattle.std.specs.Prelude.{◌≡◌, ◌≢◌, ℕ, ◌+◌, ◌≤◌, Bool, true, false, ◌⊎◌, List, [], ◌∷◌, ◌++◌, length, map}
+use Rattle.party_roll.specs.declared.roll.Roll.{Ghosts}
+use Rattle.session_rules.specs.declared.call.Call.{Call}
+use Rattle.session_rules.specs.declared.call.Call.TheVariants as call
+use Rattle.session_rules.specs.declared.call.Entry.{Entry}
+use Rattle.session_rules.specs.declared.fixed.Fixed.{Fixed}
+use Rattle.session_rules.specs.States.{State}
+use Rattle.session_rules.specs.Histories.{after, state_after}
+use Rattle.session_rules.specs.Tasks.{Task, exhausts, own}
+use Rattle.share_spec.specs.Sets.{members}
+use Rattle.session_rules.specs.Courses.{sends, Follows, BreaksOff, serial_tasks, Settles, Unsettled, rounds}
+use Rattle.run_laws.specs.Leaving.{Leaves, idle}
+use Rattle.session_spec.specs.Settings.{rules}
+use Rattle.session_core.specs.Calls.{known, state_of}
+use Rattle.session_core.specs.declared.session.Session.{Session}
+use Rattle.session_core.specs.declared.stop.Stop.{Stop}
+use Rattle.session_core.specs.declared.stop.Stop.TheVariants.{Spent, NoMemory}
+
+-- ---- what was called
+
+-- some entries stand behind a history, all of them caller 0's, and they are such as is said
+pub record Acted (Are : List Entry → Type 0) (before now : List Entry) : Type 0 where
+  pub made : List Entry
+  pub log : now ≡ before ++ made
+  pub alone : own 0 made ≡ made
+  pub are : Are made
+
+-- they settle a session
+pub record AreRounds (f : Fixed) (s : State) (es : List Entry) : Type 0 where
+  pub settles : Settles rounds f 0 s es
+
+-- some parties join, and then they settle it
+pub record AreSerial (f : Fixed) (present : List ℕ) (s : State) (es : List Entry) : Type 0 where
+  pub acts : List Entry
+  pub settling : List Entry
+  pub parts : es ≡ acts ++ settling
+  pub follows : Follows f.rows (serial_tasks present []) acts
+  pub settles : Settles rounds f 0 (after f s acts) settling
+
+-- ---- where it stops
+
+-- whether a call brings what has to be made before it: a share, an encryption, an output
+abbrev pub is_made_first : Call → Bool
+is_made_first (call.Deliver id p rows) = true
+is_made_first (call.Input c k) = true
+is_made_first (call.Finish c) = true
+is_made_first other = false
+
+-- why it stopped at this call: a full log is told as such, but where what the call brings met no memory
+abbrev pub StopsFor : Stop → ℕ → List Entry → Call → Type 0
+StopsFor Spent most now next = length now ≡ most
+StopsFor NoMemory most now next = is_made_first next ≡ false → length now ≢ most
+
+-- the entries are such as is said, by the call that would be next, at which it stopped
+pub record Halted (most : ℕ) (why : Stop) (Are : List Entry → Call → Type 0) (before now : List Entry) : Type 0 where
+  pub made : List Entry
+  pub log : now ≡ before ++ made
+  pub alone : own 0 made ≡ made
+  pub next : Call
+  pub are : Are made next
+  pub reason : StopsFor why most now next
+
+-- the first entries of those that settle a session, and not all
+pub record AreFewRounds (f : Fixed) (s : State) (es : List Entry) (next : Call) : Type 0 where
+  pub unsettled : Unsettled rounds f 0 s es next
+
+-- it stopped where parties join, or later where it settles
+abbrev pub StopsLater : Fixed → List ℕ → State → List Entry → Call → Type 0
+StopsLater f present s es next =
+    (acts : List Entry) × (settling : List Entry) × (es ≡ acts ++ settling) × Follows f.rows (serial_tasks present []) acts
+    × Unsettled rounds f 0 (after f s acts) settling next
+
+pub record AreFewSerial (f : Fixed) (present : List ℕ) (s : State) (es : List Entry) (next : Call) : Type 0 where
+  pub begins : BreaksOff f.rows (serial_tasks present []) es next ⊎ StopsLater f present s es next
+
+-- ---- of a session
+
+-- what is to be done once a circuit was asked for: to ask again, if there was one
+abbrev pub again : Bool → List Task
+again true = exhausts ∷ []
+again false = []
+
+module _ {R : Type 0} {K : Ghosts R} where
+  -- what is done from one session to another: as much of some tasks that these are left, or all of them
+  abbrev pub Doing : List Task → List Task → Session R K → Session R K → Type 0
+  Doing ts rest old new = Acted (Leaves (rules (known old).setting).rows ts rest) old.log.items new.log.items
+
+  abbrev pub Did : List Task → Session R K → Session R K → Type 0
+  Did ts old new = Doing ts [] old new
+
+  -- the first calls of some tasks are made, and not all
+  abbrev pub BrokeOff : List Task → Session R K → Session R K → Stop → Type 0
+  BrokeOff ts old new why = Halted (known old).most why (BreaksOff (rules (known old).setting).rows ts) old.log.items new.log.items
+
+  -- a circuit was asked for, and evaluated if there was one
+  pub record Worked (old new : Session R K) (more : Bool) : Type 0 where
+    pub does : Doing (exhausts ∷ []) (again more) old new
+    pub fewer : more ≡ true → idle (state_of new) + 1 ≤ idle (state_of old)
+
+  -- all that those who are present owe is to be sent
+  abbrev pub all_send : Session R K → List Task
+  all_send s = map sends (members (state_of s).present)
+
+  -- the rules, and the state behind the log
+  abbrev pub rules_for : Session R K → Fixed
+  rules_for s = rules (known s).setting
+
+  abbrev pub state_behind : Session R K → State
+  state_behind s = state_after (rules_for s) s.log.items
+
+  -- it was settled, or settling stopped
+  abbrev pub Settled : Session R K → Session R K → Type 0
+  Settled old new = Acted (AreRounds (rules_for old) (state_behind old)) old.log.items new.log.items
+
+  abbrev pub StoppedSettling : Session R K → Session R K → Stop → Type 0
+  StoppedSettling old new why = Halted (known old).most why (AreFewRounds (rules_for old) (state_behind old)) old.log.items new.log.items
+
+  -- and so after some parties joined
+  abbrev pub Served : List ℕ → Session R K → Session R K → Type 0
+  Served present old new = Acted (AreSerial (rules_for old) present (state_behind old)) old.log.items new.log.items
+
+  abbrev pub StoppedServing : List ℕ → Session R K → Session R K → Stop → Type 0
+  StoppedServing present old new why = Halted (known old).most why (AreFewSerial (rules_for old) present (state_behind old)) old.log.items new.log.items
