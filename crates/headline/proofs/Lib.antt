@@ -1,0 +1,7 @@
+pub mod Setting
+pub mod Printed
+pub mod Values
+pub mod Open
+pub mod Keeps
+pub mod Small
+pub mod Histories

@@ -1,0 +1,4 @@
+pub mod Asked
+pub mod Course
+pub mod Headline
+pub mod History
