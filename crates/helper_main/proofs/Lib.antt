@@ -1,6 +1,7 @@
 mod Bytes
 mod Inputs
 mod Party
-mod Room
+mod Logged
 mod Session
 mod Taken
+pub mod Headline

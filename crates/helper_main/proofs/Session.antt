@@ -1,28 +1,27 @@
 -- The session of a script: what it is made of, and the history of its serial run.
-use Rattle.std.proofs.Common.{◌≡◌, ◌∙◌, sym, ap, ap₂, subst, refl, ℕ, ◌≤◌, true, List, [], length, map, get_or, All, arith}
+use Rattle.std.proofs.Common.{◌≡◌, ◌∙◌, Result, Ok, Err, sym, ap, ap₂, subst, refl, ℕ, ◌≤◌, true, List, length, map, get_or, All, arith}
+use Rattle.std.specs.Prelude.{IfOk}
 use Rattle.std.proofs.lemmas.List.{length-map}
 use Rattle.std.proofs.lemmas.List.Elements.{All-same, All-map, All-weaker}
 use Rattle.std.proofs.lemmas.List.Sums.{AllPass-from_list_all}
 use Rattle.draw_spec.specs.Streams.{party_seed}
 use Rattle.param_set.specs.declared.params.Params.{Params}
 use Rattle.cipher_spec.specs.Ciphers.{is_switch_free}
-use Rattle.party_roll.specs.declared.seed_party.SeedParty.{SeedParty}
 use Rattle.party_roll.specs.Seeds.{seeds_told, seeds_of}
 use Rattle.session_rules.specs.declared.call.Entry.{Entry}
-use Rattle.session_rules.specs.declared.fixed.Fixed.{Fixed}
-use Rattle.session_rules.specs.declared.line.Line.{Line}
-use Rattle.session_rules.specs.Histories.{after}
-use Rattle.session_rules.specs.Lanes.{serial, served_all, joined_all, settled}
 use Rattle.session_script.specs.Asked.{Asked, Named, Numbers, numbers_of}
-use Rattle.session_script.specs.Kept.{IsNamed, AreNamed}
+use Rattle.session_script.specs.Kept.{IsNamed, AreNamed, IsAccepted}
 use Rattle.session_spec.specs.Settings.{Setting, Offer, Keeps, rules}
 use Rattle.session_state.specs.Parts.{setting_by}
-use Rattle.session_core.specs.Sessions.{HasTold}
+use Rattle.session_core.specs.Sessions.{IsModest, HasTold}
 use Rattle.run_report.specs.Reports.{offered, setting_asked, seeds_asked, report}
-use Rattle.lane_workers.specs.Acting.{run_behind, IsHonestParty}
+use Rattle.lane_workers.specs.Acting.{CanAct, IsHonestParty}
+use Rattle.party_roll.specs.declared.seed_party.SeedParty.{SeedParty}
+use Rattle.run_laws.specs.Lengths.{inputs}
+use Rattle.headline.specs.History.{is_free, are_free, history}
+use Rattle.headline.proofs.Small.{small}
 use Rattle.helper_main.specs.Parties.{IsPartyOf}
-use Rattle.helper_main.specs.Works.{is_free, are_free}
-use Rattle.helper_main.specs.Runs.{history, serial_report}
+use Rattle.helper_main.specs.Runs.{serial_report}
 
 -- ---- the circuits
 
@@ -54,6 +53,10 @@ few a circuits is most = omega (arith, ap length is, length-map a.circuits offer
 
 -- ---- its setting
 
+pub if_ok : {X E : Type 0} {P Q : X → Type 0} (r : Result X E) → ((x : X) → P x → Q x) → IfOk r P → IfOk r Q
+if_ok (Ok x) f p = f x p
+if_ok (Err e) f p = tt
+
 setting_now : (a : Asked) (s : Params) → a.numbers ≡ numbers_of s → setting_by s (party_seed a.master 0) (map offered a.circuits) ≡ setting_asked a
 unfolding setting_asked
 setting_now a s numbers = cc
@@ -63,34 +66,35 @@ setting_is a p s master circuits numbers same seed is =
     ap (λ (z : Params). setting_by z (party_seed master 0) circuits) same
     ∙ ap₂ (λ (m : List ℕ) (os : List Offer). setting_by s (party_seed m 0) os) seed is ∙ setting_now a s numbers
 
+-- it asks for little
+pub modest : (a : Asked) (w : Setting) → IsAccepted a → w ≡ setting_asked a → IsModest (rules w)
+unfolding inputs
+modest a w h e =
+    let s = small a h in
+    subst (λ (z : Setting). IsModest (rules z)) (sym e) (record { turns = s.turns; inputs = s.inputs })
+
 -- ---- its parties
 
 pub seeds_are : (a : Asked) (master : List ℕ) (n : ℕ) → master ≡ a.master → n ≡ a.numbers.parties → seeds_told (party_seed master) n ≡ seeds_asked a
 unfolding seeds_of
 seeds_are a master n seed is = ap₂ (λ (m : List ℕ) (k : ℕ). seeds_told (party_seed m) k) seed is
 
--- the party tells the seeds of a setting, and has its values
+-- a party of the script is one of a session with this setting and these seeds
+abbrev pub Able : Params → Setting → SeedParty → Type 0
+Able p w party = CanAct p w party.params party.number party.values
+
 abbrev pub Honest : Setting → List (List ℕ) → SeedParty → Type 0
 Honest w seeds party = IsHonestParty w seeds true (party_seed party.roll.master 0) (seeds_of party.roll.master party.params.parties) party.number party.values
 
-pub honest_all : (a : Asked) (p : Params) (w : Setting) (seeds : List (List ℕ)) (ps xs : List SeedParty) → All (IsPartyOf p a) ps → xs ≡ ps → w ≡ setting_asked a → seeds ≡ seeds_asked a → All (Honest w seeds) xs
-honest_all a p w seeds ps xs parties same setting told =
-    let all = All-same (Honest (setting_asked a) (seeds_asked a)) xs ps same (All-weaker (IsPartyOf p a) (Honest (setting_asked a) (seeds_asked a)) (λ x h. h.honest) ps parties) in
-    subst (λ (z : Setting). All (Honest z seeds) xs) (sym setting) (subst (λ (z : List (List ℕ)). All (Honest (setting_asked a) z) xs) (sym told) all)
+pub able : (a : Asked) (p q : Params) (w : Setting) (party : SeedParty) → q ≡ p → w ≡ setting_asked a → IsPartyOf p a party → Able q w party
+able a p q w party same setting h =
+    subst (λ (z : Params). Able z w party) (sym same) (subst (λ (z : Setting). Able p z party) (sym setting) h.able)
 
--- ---- its history
+pub honest : (a : Asked) (p : Params) (w : Setting) (seeds : List (List ℕ)) (party : SeedParty) → w ≡ setting_asked a → seeds ≡ seeds_asked a → IsPartyOf p a party → Honest w seeds party
+honest a p w seeds party setting told h =
+    subst (λ (z : Setting). Honest z seeds party) (sym setting) (subst (λ (z : List (List ℕ)). Honest (setting_asked a) z party) (sym told) h.honest)
 
-no_lanes : (f : Fixed) (present : List ℕ) → (settled f 0 (joined_all f 0 (run_behind f []) present)).log ≡ (serial f present []).log
-unfolding serial served_all after
-no_lanes f present = refl
-
-pub history_is : (a : Asked) (w : Setting) (log : List Entry) (present : List ℕ) → w ≡ setting_asked a → log ≡ [] → a.lanes ≡ [] → present ≡ a.present
-    → (settled (rules w) 0 (joined_all (rules w) 0 (run_behind (rules w) log) present)).log ≡ history a
-unfolding history
-history_is a w log present setting none lanes here =
-    ap (λ (z : Setting). (settled (rules z) 0 (joined_all (rules z) 0 (run_behind (rules z) log) present)).log) setting
-    ∙ ap₂ (λ (es : List Entry) (ps : List ℕ). (settled (rules (setting_asked a)) 0 (joined_all (rules (setting_asked a)) 0 (run_behind (rules (setting_asked a)) es) ps)).log) none here
-    ∙ no_lanes (rules (setting_asked a)) a.present ∙ ap (λ (ls : List (List Line)). (serial (rules (setting_asked a)) a.present ls).log) (sym lanes)
+-- ---- its report
 
 pub report_is : (a : Asked) (log : List Entry) → log ≡ history a → report a log ≡ serial_report a
 unfolding serial_report

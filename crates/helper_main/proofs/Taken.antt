@@ -4,7 +4,8 @@ use Rattle.std.proofs.lemmas.Bool.{and_parts, eqb-true}
 use Rattle.session_rules.specs.declared.line.Line.{Line}
 use Rattle.session_script.specs.Asked.{Asked}
 use Rattle.helper_main.specs.declared.work.Work.TheVariants.{Run}
-use Rattle.helper_main.specs.Works.{are_free, takes}
+use Rattle.headline.specs.History.{are_free}
+use Rattle.helper_main.specs.Works.{takes}
 
 none-there : (ls : List (List Line)) → (length ls == 0) ≡ true → ls ≡ []
 none-there [] e = refl

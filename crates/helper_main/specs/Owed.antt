@@ -1,24 +1,28 @@
 -- What the program writes, and what each status means. Where a source or a sink doesn't tell its
 -- bytes, nothing is said of them.
-use Rattle.std.specs.Prelude.{◌≡◌, ℕ, ◌<◌, ◌≤◌, ◌⊎◌, ⊤, true, false, List, [], ◌∷◌, length, take, codes, Option, Some, None}
+use Rattle.std.specs.Prelude.{◌≡◌, ℕ, ◌<◌, ◌≤◌, ◌⊎◌, ⊤, true, false, List, [], ◌∷◌, length, take, codes, Option, Some, None, Ok}
 use Rattle.std.specs.Io.KnownBytes.{Appends}
 use Rattle.edge_io.specs.Taking.{TakesAtMost, TakesMoreThan}
+use Rattle.session_rules.specs.declared.call.Entry.{Entry}
+use Rattle.session_script.specs.Asked.{Asked}
 use Rattle.session_script.specs.Scripts.{script}
+use Rattle.run_report.specs.Reports.{report}
+use Rattle.headline.specs.Course.{serial}
+use Rattle.headline.specs.Headline.{Headline}
 use Rattle.helper_main.specs.declared.status.Status.{Status}
 use Rattle.helper_main.specs.declared.status.Status.TheVariants.{Done, Usage, Script, Read, Write, Memory}
 use Rattle.helper_main.specs.declared.work.Work.{Work}
+use Rattle.helper_main.specs.declared.work.Work.TheVariants.{Run, Check}
 use Rattle.helper_main.specs.Works.{owed, is_done}
 
 -- the greatest number of bytes of a script
 abbrev pub most_bytes : ℕ
 most_bytes = 1048576
 
--- the words of a run, and of a check
-abbrev pub words_of_run : List (List ℕ)
-words_of_run = codes "run" ∷ codes "--serial" ∷ []
-
-abbrev pub words_of_check : List (List ℕ)
-words_of_check = codes "check" ∷ []
+-- the words of a work
+abbrev pub words_of : Work → List (List ℕ)
+words_of Run = codes "run" ∷ codes "--serial" ∷ []
+words_of Check = codes "check" ∷ []
 
 abbrev pub usage_line : List ℕ
 usage_line = codes "usage: helium run [--serial] [--json] | check | gen NUMBER\n"
@@ -77,3 +81,29 @@ Declines Script old new = ⊥
 Declines Read old new = ⊥
 Declines Write old new = WritesPart old new usage_line
 Declines Memory old new = ⊥
+
+-- ---- what a run that is done promises
+
+-- all bytes were read and spell a script, and what was written is the report of calls that keep the headline
+pub record KeepsHeadline (bytes : List ℕ) (left old new : Option (List ℕ)) : Type 0 where
+  pub asked : Asked
+  pub entries : List Entry
+  pub read : ReadsWhole bytes left
+  pub spelled : script bytes ≡ Ok asked
+  pub written : Appends old new (report asked entries)
+  pub headline : Headline asked serial entries
+
+abbrev pub HasHeadline : Option (List ℕ) → Option (List ℕ) → Option (List ℕ) → Option (List ℕ) → Type 0
+HasHeadline None left old new = ⊤
+HasHeadline (Some bytes) left old new = KeepsHeadline bytes left old new
+
+-- ---- when a work is done
+
+-- the source has a script with which the work is done, and no more
+abbrev pub HoldsScript : Work → Option (List ℕ) → Type 0
+HoldsScript work None = ⊥
+HoldsScript work (Some bytes) = (length bytes ≤ most_bytes) × (is_done work (script bytes) ≡ true)
+
+-- it is done, or memory was wanting
+abbrev pub IsDoneOr : Status → Type 0
+IsDoneOr status = (status ≡ Done) ⊎ (status ≡ Memory)

@@ -1,24 +1,15 @@
 -- What is done with a script: which scripts are taken, and the text that is owed for one.
 use Rattle.std.specs.Prelude.{ℕ, ◌==◌, ◌&&◌, Bool, false, if◌then◌else◌, List, length, codes, Result, Ok, Err}
-use Rattle.std.specs.List.{list_all}
-use Rattle.cipher_spec.specs.Ciphers.{is_switch_free}
-use Rattle.session_script.specs.Asked.{Asked, Named}
+use Rattle.session_script.specs.Asked.{Asked}
 use Rattle.session_script.specs.Scripts.{Refusal}
 use Rattle.run_report.specs.Refusals.{refusal_line}
 use Rattle.run_report.specs.Checking.{check_text}
 use Rattle.helper_main.specs.declared.work.Work.{Work}
 use Rattle.helper_main.specs.declared.work.Work.TheVariants.{Run, Check}
+use Rattle.headline.specs.History.{are_free}
 use Rattle.helper_main.specs.Runs.{serial_report}
 
 -- ---- which scripts
-
--- whether the evaluation of a circuit needs no key switch
-abbrev pub is_free : Named → Bool
-is_free circuit = is_switch_free circuit.nodes
-
--- whether that holds of all circuits
-abbrev pub are_free : List Named → Bool
-are_free circuits = list_all is_free circuits
 
 -- whether a script is taken for a work: no circuit has a rotation or a product of two nodes neither of which is a
 -- constant, and what is run has no lanes

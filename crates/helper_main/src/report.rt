@@ -1,10 +1,10 @@
-ghost use Rattle.std.specs.Prelude.{◌≡◌, ◌<◌, true, [], IfOk};
+ghost use Rattle.std.specs.Prelude.{◌≡◌, true, [], IfOk};
 ghost use Rattle.session_script.specs.Scripts.{asked};
 ghost use Rattle.session_script.specs.Kept.{IsAccepted};
 ghost use Rattle.session_state.specs.Standings.{setting};
 ghost use Rattle.run_report.specs.Reports.{setting_asked};
-ghost use Rattle.helper_main.specs.Runs.{history, most_entries, serial_report};
-ghost use Rattle.helper_main.specs.Works.{are_free};
+ghost use Rattle.headline.specs.History.{most_calls, history, are_free};
+ghost use Rattle.helper_main.specs.Runs.{serial_report};
 
 use crate::parties::{offered, parties};
 use lane_workers::serial;
@@ -24,11 +24,11 @@ fn opened(alloc: Global, ring: &Arc<Ring>, script: &Script) -> Result<Session<Se
     requires ring { ring.now.value.params ≡ script.now.params }
     requires free { are_free script.now.circuits ≡ true }
     requires accepted { IsAccepted (asked script.now) }
-    ensures setting { IfOk result (λ session. setting session.standing ≡ setting_asked (asked script.now)) }
-    ensures master { IfOk result (λ session. session.roll.master ≡ script.now.master) }
-    ensures params { IfOk result (λ session. session.standing.params ≡ script.now.params) }
-    ensures log { IfOk result (λ session. session.log.items ≡ []) }
-    ensures room { IfOk result (λ session. most_entries < session.max_calls) }
+    ensures setting { IfOk result (λ s. setting s.standing ≡ setting_asked (asked script.now)) }
+    ensures master { IfOk result (λ s. s.roll.master ≡ script.now.master) }
+    ensures params { IfOk result (λ s. s.standing.params ≡ script.now.params) }
+    ensures log { IfOk result (λ s. s.log.items ≡ []) }
+    ensures most { IfOk result (λ s. s.max_calls ≡ most_calls) }
 {
     let roll = SeedRoll::new(script.master);
     let circuits = offered(alloc, &script.circuits)?;
@@ -41,10 +41,9 @@ fn run(alloc: Global, ring: &Arc<Ring>, script: &Script) -> Result<Session<SeedR
     requires free { are_free script.now.circuits ≡ true }
     requires accepted { IsAccepted (asked script.now) }
     requires no_lanes { (asked script.now).lanes ≡ [] }
-    ensures setting { IfOk result (λ session. setting session.standing ≡ setting_asked (asked script.now)) }
-    ensures master { IfOk result (λ session. session.roll.master ≡ script.now.master) }
-    ensures params { IfOk result (λ session. session.standing.params ≡ script.now.params) }
-    ensures log { IfOk result (λ session. session.log.items ≡ history (asked script.now)) }
+    ensures setting { IfOk result (λ s. setting s.standing ≡ setting_asked (asked script.now)) }
+    ensures master { IfOk result (λ s. s.roll.master ≡ script.now.master) }
+    ensures log { IfOk result (λ s. s.log.items ≡ history (asked script.now)) }
 {
     let roll = SeedRoll::new(script.master);
     let parties = parties(alloc, ring, &roll, script)?;

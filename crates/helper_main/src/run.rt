@@ -3,7 +3,7 @@ ghost use Rattle.std.specs.Io.KnownBytes.{Appends};
 ghost use Rattle.edge_io.specs.Faults.{HasFault};
 ghost use Rattle.session_script.specs.Scripts.{script};
 ghost use Rattle.helper_main.specs.Works.{owed, is_done};
-ghost use Rattle.helper_main.specs.Owed.{Serves, WritesPart, most_bytes};
+ghost use Rattle.helper_main.specs.Owed.{Serves, WritesPart, HasHeadline, HoldsScript, IsDoneOr, most_bytes};
 
 use crate::owed::owed;
 use crate::status::Status;
@@ -75,10 +75,14 @@ fn serve<S: Source, K: Sink>(alloc: Global, work: Work, source: &mut S, sink: &m
 
 /// Reads a script to its end, runs its session and writes its report.
 ///
+/// With `Done` the report keeps the headline (the crate `headline`): every aggregate that it calls complete is
+/// the sum of one share of each of its T parties, and every answer is the plain value of its circuit.
 /// `specs/Owed.antt` says what each status means for the bytes. A refused script is answered by one
 /// line, and more than 1,048,576 bytes by another.
 pub fn run_serial<S: Source, K: Sink>(alloc: Global, source: &mut S, sink: &mut K) -> Status
+    ensures headline { result ≡ Status.Done → HasHeadline (S.left source.old) (S.left source.new) (K.taken sink.old) (K.taken sink.new) }
     ensures serves { Serves Work.Run result (S.left source.old) (S.left source.new) (K.taken sink.old) (K.taken sink.new) }
+    ensures complete { HoldsScript Work.Run (S.left source.old) → (HasFault (S.faults source.old) (S.faults source.new) → ⊥) → (HasFault (K.faults sink.old) (K.faults sink.new) → ⊥) → IsDoneOr result }
     ensures read { result ≡ Status.Read → HasFault (S.faults source.old) (S.faults source.new) }
     ensures no_read_fault { (result ≡ Status.Read → ⊥) → S.faults source.new ≡ S.faults source.old }
     ensures write { result ≡ Status.Write → HasFault (K.faults sink.old) (K.faults sink.new) }
@@ -94,6 +98,7 @@ pub fn run_serial<S: Source, K: Sink>(alloc: Global, source: &mut S, sink: &mut 
 /// The statuses are those of `run_serial`, with that text in place of the report.
 pub fn run_check<S: Source, K: Sink>(alloc: Global, source: &mut S, sink: &mut K) -> Status
     ensures serves { Serves Work.Check result (S.left source.old) (S.left source.new) (K.taken sink.old) (K.taken sink.new) }
+    ensures complete { HoldsScript Work.Check (S.left source.old) → (HasFault (S.faults source.old) (S.faults source.new) → ⊥) → (HasFault (K.faults sink.old) (K.faults sink.new) → ⊥) → IsDoneOr result }
     ensures read { result ≡ Status.Read → HasFault (S.faults source.old) (S.faults source.new) }
     ensures no_read_fault { (result ≡ Status.Read → ⊥) → S.faults source.new ≡ S.faults source.old }
     ensures write { result ≡ Status.Write → HasFault (K.faults sink.old) (K.faults sink.new) }

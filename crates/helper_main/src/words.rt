@@ -1,6 +1,6 @@
 ghost use Rattle.std.specs.Prelude.{◌≡◌, ℕ, ◌≤◌, [], ◌∷◌, codes, map, string_bytes, IsTrue, ◌↔◌};
 ghost use Rattle.edge_io.specs.Faults.{HasFault};
-ghost use Rattle.helper_main.specs.Owed.{Serves, Declines, words_of_run, words_of_check};
+ghost use Rattle.helper_main.specs.Owed.{Serves, Declines, HasHeadline, HoldsScript, IsDoneOr, words_of};
 
 use crate::run::{put, run_check, run_serial};
 use crate::status::Status;
@@ -17,7 +17,7 @@ fn same(a: &str, b: &str) -> bool
 
 /// Whether the words are `run`, `--serial`.
 fn are_of_run(words: &[String]) -> bool
-    ensures { IsTrue result ↔ (map string_bytes words.now ≡ words_of_run) }
+    ensures { IsTrue result ↔ (map string_bytes words.now ≡ words_of Work.Run) }
 {
     match words {
         [work, flag] => {
@@ -31,7 +31,7 @@ fn are_of_run(words: &[String]) -> bool
 
 /// Whether the only word is `check`.
 fn are_of_check(words: &[String]) -> bool
-    ensures { IsTrue result ↔ (map string_bytes words.now ≡ words_of_check) }
+    ensures { IsTrue result ↔ (map string_bytes words.now ≡ words_of Work.Check) }
 {
     match words {
         [work] => same(work.as_str(), "check"),
@@ -47,9 +47,10 @@ pub fn run_words<S: Source, K: Sink>(
     source: &mut S,
     sink: &mut K,
 ) -> Status
-    ensures run { map string_bytes words.now ≡ words_of_run → Serves Work.Run result (S.left source.old) (S.left source.new) (K.taken sink.old) (K.taken sink.new) }
-    ensures check { map string_bytes words.now ≡ words_of_check → Serves Work.Check result (S.left source.old) (S.left source.new) (K.taken sink.old) (K.taken sink.new) }
-    ensures usage { (map string_bytes words.now ≡ words_of_run → ⊥) → (map string_bytes words.now ≡ words_of_check → ⊥) → Declines result (K.taken sink.old) (K.taken sink.new) × (source.new ≡ source.old) }
+    ensures headline { map string_bytes words.now ≡ words_of Work.Run → result ≡ Status.Done → HasHeadline (S.left source.old) (S.left source.new) (K.taken sink.old) (K.taken sink.new) }
+    ensures serves { (work : Work) → map string_bytes words.now ≡ words_of work → Serves work result (S.left source.old) (S.left source.new) (K.taken sink.old) (K.taken sink.new) }
+    ensures complete { (work : Work) → map string_bytes words.now ≡ words_of work → HoldsScript work (S.left source.old) → (HasFault (S.faults source.old) (S.faults source.new) → ⊥) → (HasFault (K.faults sink.old) (K.faults sink.new) → ⊥) → IsDoneOr result }
+    ensures usage { ((work : Work) → map string_bytes words.now ≡ words_of work → ⊥) → Declines result (K.taken sink.old) (K.taken sink.new) × (source.new ≡ source.old) }
     ensures read { result ≡ Status.Read → HasFault (S.faults source.old) (S.faults source.new) }
     ensures no_read_fault { (result ≡ Status.Read → ⊥) → S.faults source.new ≡ S.faults source.old }
     ensures write { result ≡ Status.Write → HasFault (K.faults sink.old) (K.faults sink.new) }

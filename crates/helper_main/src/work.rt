@@ -1,7 +1,8 @@
 ghost use Rattle.std.specs.Prelude.{◌≡◌};
 ghost use Rattle.std.specs.List.{list_all};
 ghost use Rattle.session_script.specs.Scripts.{asked};
-ghost use Rattle.helper_main.specs.Works.{is_free, are_free, takes};
+ghost use Rattle.headline.specs.History.{is_free, are_free};
+ghost use Rattle.helper_main.specs.Works.{takes};
 
 use circuit_runner::is_switch_free;
 use session_script::{NamedCircuit, NamedCircuits, Script};

@@ -6,43 +6,68 @@ use Rattle.param_set.specs.declared.params.Params.{Params}
 use Rattle.circuit_form.specs.declared.node.Node.TheVariants.{Input}
 use Rattle.party_roll.specs.declared.placed.Placed.{Placed}
 use Rattle.party_roll.specs.Values.{value_in}
-use Rattle.session_rules.specs.declared.call.Entry.{Entry}
 use Rattle.session_rules.specs.declared.fixed.Fixed.{Fixed}
-use Rattle.session_rules.specs.declared.state.CircuitState.TheVariants.{Idle}
-use Rattle.session_rules.specs.States.{plan, seen}
+use Rattle.session_rules.specs.States.{plan}
 use Rattle.session_rules.specs.Steps.{is_input}
 use Rattle.session_spec.specs.Settings.{Setting, rules, value_at}
-use Rattle.lane_workers.specs.Acting.{run_behind, Begins, Owns, CanAct, IsHonestParty, IsParty, OwnsPlace}
+use Rattle.session_rules.specs.declared.call.Call.TheVariants as call
+use Rattle.session_rules.specs.Tasks.{exhausts, own as own_entries, left, at_call, dropped, next_call, after_reply}
+use Rattle.session_rules.specs.Courses.{joins as joins_task}
+use Rattle.run_laws.specs.Leaving.{Leaves}
+use Rattle.session_core.specs.declared.stop.Stop.TheVariants.{Spent, NoMemory}
+use Rattle.session_core.specs.Sessions.{IsParty}
+use Rattle.lane_workers.specs.Acting.{Owns, CanAct, IsHonestParty, OwnsPlace}
+use Rattle.lane_workers.specs.Doing.{Acted, is_made_first, StopsFor, again}
 use Rattle.spec_rows.proofs.Settings.{p, seven, framed, degree_is, no_factor}
-use Rattle.session_rows.proofs.Words.{sum_of, any_two, joins, rests}
+use Rattle.session_rows.proofs.Words.{sum_of, any_two, joins}
 use Rattle.session_rows.proofs.Computed.{plans}
-use Rattle.session_rows.proofs.Computed.{rules as computed}
 
--- ---- runs and their beginnings
+-- ---- what was called, and where it stopped
 
 abbrev pub alone : Fixed
 alone = any_two (sum_of (3 ∷ []))
 
-pub run_is : run_behind alone (joins 3 ∷ rests ∷ []) ≡ record { state = seen 4 [] ((false ∷ []) ∷ []) (Idle ∷ []); log = joins 3 ∷ rests ∷ []; hand = None }
-unfolding computed
-run_is = refl
+-- what is called is behind what was
+pub joined_behind : Acted (Leaves 1 (joins_task 1 ∷ joins_task 2 ∷ []) (joins_task 2 ∷ [])) [] (joins 1 ∷ [])
+unfolding left at_call dropped next_call after_reply
+joined_behind = record { made = joins 1 ∷ []; log = refl; alone = refl; are = record { leaves = refl } }
 
-pub begins : Begins (joins 1 ∷ []) (joins 1 ∷ joins 2 ∷ [])
-begins = refl
+-- another caller's entry isn't caller 0's
+pub not_alone : own_entries 0 (record (joins 1) { caller = 2 } ∷ []) ≡ []
+not_alone = refl
 
-pub begins_with_nothing : Begins [] (joins 1 ∷ [])
-begins_with_nothing = refl
+-- which calls bring what is made before them
+pub brings_share : is_made_first (call.Deliver 1 2 3) ≡ true
+brings_share = refl
 
-abbrev first_caller : List Entry → ℕ
-first_caller [] = 0
-first_caller (e ∷ es) = e.caller
+pub brings_input : is_made_first (call.Input 0 1) ≡ true
+brings_input = refl
 
--- another first entry, and more entries than there are
-pub begins_otherwise : Begins (record (joins 1) { caller = 2 } ∷ []) (joins 1 ∷ joins 2 ∷ []) → ⊥
-begins_otherwise b = let callers : 0 ≡ 2 = ap first_caller b in absurd (omega (arith, callers))
+pub brings_output : is_made_first (call.Finish 0) ≡ true
+brings_output = refl
 
-pub begins_longer : Begins (joins 1 ∷ joins 2 ∷ []) (joins 1 ∷ []) → ⊥
-begins_longer b = let lengths : 1 ≡ 2 = ap length b in absurd (omega (arith, lengths))
+pub brings_nothing : is_made_first call.Take ≡ false
+brings_nothing = refl
+
+-- a full log is told as such
+pub spent_full : StopsFor Spent 1 (joins 1 ∷ []) (call.Join 2)
+spent_full = refl
+
+pub spent_early : StopsFor Spent 2 (joins 1 ∷ []) (call.Join 2) → ⊥
+spent_early e = absurd (omega (arith, e))
+
+pub short_full : StopsFor NoMemory 1 (joins 1 ∷ []) (call.Join 2) → ⊥
+short_full h = h refl refl
+
+pub short_output : StopsFor NoMemory 1 (joins 1 ∷ []) (call.Finish 0)
+short_output = λ first. absurd (true≢false first)
+
+-- a circuit is asked for again where there was one
+pub once_more : again true ≡ exhausts ∷ []
+once_more = refl
+
+pub no_more : again false ≡ []
+no_more = refl
 
 -- ---- who owns an input
 

@@ -4,7 +4,8 @@ use Rattle.cipher_spec.specs.Ciphers.{is_switch_free}
 use Rattle.session_spec.specs.Settings.{rules}
 use Rattle.run_report.specs.Reports.{setting_asked, report}
 use Rattle.helper_main.specs.declared.work.Work.TheVariants.{Run}
-use Rattle.helper_main.specs.Runs.{history, serial_report}
+use Rattle.headline.specs.History.{history}
+use Rattle.helper_main.specs.Runs.{serial_report}
 use Rattle.helper_main.specs.Works.{takes, text_for, owed}
 use Rattle.session_rows.proofs.Words.{joins, rests}
 use Rattle.session_rows.proofs.Computed.{plans}

@@ -14,18 +14,19 @@ use Rattle.session_script.specs.Words.{parts_at}
 use Rattle.session_script.specs.Scripts.{Refusal, script, read_from, ended}
 use Rattle.run_report.specs.Refusals.{reason_text, refusal_line}
 use Rattle.run_report.specs.Checking.{check_text}
+use Rattle.headline.specs.History.{is_free, are_free}
 use Rattle.helper_main.specs.declared.status.Status.TheVariants.{Done, Usage, Script, Read, Write, Memory}
 use Rattle.helper_main.specs.declared.work.Work.{Work}
 use Rattle.helper_main.specs.declared.work.Work.TheVariants.{Run, Check}
 use Rattle.helper_main.specs.Numbers.{number_of}
-use Rattle.helper_main.specs.Works.{is_free, are_free, takes, text_for, owed, is_done}
-use Rattle.helper_main.specs.Owed.{most_bytes, words_of_run, words_of_check, usage_line, WritesPart, ReadsWhole, Serves, Declines}
+use Rattle.helper_main.specs.Works.{takes, text_for, owed, is_done}
+use Rattle.helper_main.specs.Owed.{most_bytes, words_of, usage_line, WritesPart, ReadsWhole, Serves, Declines, HasHeadline, HoldsScript, IsDoneOr}
 use Rattle.run_rows.proofs.Texts.{about, three, sum, checked}
 
 pub statuses : (number_of Done ≡ 0) × (number_of Usage ≡ 2) × (number_of Script ≡ 3) × (number_of Read ≡ 4) × (number_of Write ≡ 5) × (number_of Memory ≡ 6)
 statuses = (refl, refl, refl, refl, refl, refl)
 
-pub words_are : (words_of_run ≡ codes "run" ∷ codes "--serial" ∷ []) × (words_of_check ≡ codes "check" ∷ [])
+pub words_are : (words_of Run ≡ codes "run" ∷ codes "--serial" ∷ []) × (words_of Check ≡ codes "check" ∷ [])
 words_are = (refl, refl)
 
 -- ---- which scripts are taken
@@ -291,3 +292,34 @@ declines_as_read d = d
 
 pub declines_for_memory : Declines Memory (Some []) (Some []) → ⊥
 declines_for_memory d = d
+
+-- ---- what a run that is done promises, and when a work is done
+
+pub headline_untold : HasHeadline None (Some []) (Some []) (Some [])
+headline_untold = tt
+
+abbrev one_if_ok : Result Asked Refusal → ℕ
+one_if_ok (Ok a) = 1
+one_if_ok (Err r) = 0
+
+-- no bytes spell no script
+pub headline_of_nothing : HasHeadline (Some []) (Some []) (Some []) (Some []) → ⊥
+headline_of_nothing h = let there : 0 ≡ 1 = ap one_if_ok (sym spells_none ∙ h.spelled) in absurd (omega (arith, there))
+
+pub holds_script : (bytes : List ℕ) → script bytes ≡ Ok (about (sum ∷ [])) → length bytes ≤ 1048576 → HoldsScript Check (Some bytes)
+holds_script bytes spells few = (few, ap (is_done Check) spells ∙ sum_is_done)
+
+pub holds_nothing : HoldsScript Run (Some []) → ⊥
+holds_nothing h = true≢false (sym h.1 ∙ none_done Run)
+
+pub holds_untold : HoldsScript Run None → ⊥
+holds_untold h = h
+
+pub done_or_not : IsDoneOr Done × IsDoneOr Memory
+done_or_not = (inl refl, inr refl)
+
+pub done_or_read : IsDoneOr Read → ⊥
+done_or_read d = elim d [
+  | inl same ↦ let numbers : 4 ≡ 0 = ap number_of same in absurd (omega (arith, numbers))
+  | inr same ↦ let numbers : 4 ≡ 6 = ap number_of same in absurd (omega (arith, numbers))
+]

@@ -1,9 +1,7 @@
 -- The circuits of the script keep what a session asks of circuits, and are its setting.
-use Rattle.std.proofs.Common.{◌≡◌, ◌∙◌, ap, refl, subst}
-use Rattle.std.specs.Prelude.{IfOk}
+use Rattle.std.proofs.Common.{◌∙◌, ap, refl}
 use Rattle.session_script.specs.Scripts.{asked}
-use Rattle.session_state.specs.Standings.{setting}
-use Rattle.helper_main.proofs.Session.{keeps, few, told, setting_is}
+use Rattle.helper_main.proofs.Session.{if_ok, keeps, few, told, setting_is, modest}
 use Rattle.helper_main.proofs.report.opened.Goals as goal
 
 pub new-requires-clause-keep : goal.new-requires-clause-keep
@@ -19,9 +17,16 @@ new-requires-clause-values c κs = λ _.
     let a = asked c.args.script.now in
     told a c.in_ok-try_clone.field-0.value.params c.args.script.now.params c.in_ok-circuits.circuits refl (ap (λ z. z.params) c.in_ok-try_clone.ensures ∙ c.requires.ring) c.requires.accepted.named c.in_ok-circuits.ensures
 
+pub new-requires-clause-modest : goal.new-requires-clause-modest
+new-requires-clause-modest c κs =
+    let a = asked c.args.script.now in
+    let params = ap (λ z. z.params) c.in_ok-try_clone.ensures ∙ c.requires.ring in
+    modest a _ c.requires.accepted
+    (setting_is a c.in_ok-try_clone.field-0.value.params c.args.script.now.params c.new-roll.result.master c.in_ok-circuits.circuits refl params c.new-roll.ensures c.in_ok-circuits.ensures)
+
 pub returns-clause-setting : goal.returns-clause-setting
 returns-clause-setting c =
     let a = asked c.args.script.now in
     let params = ap (λ z. z.params) c.in_ok-try_clone.ensures ∙ c.requires.ring in
     let e = setting_is a c.in_ok-try_clone.field-0.value.params c.args.script.now.params c.new-roll.result.master c.in_ok-circuits.circuits refl params c.new-roll.ensures c.in_ok-circuits.ensures in
-    subst (λ x. IfOk c.new.result (λ session. setting session.standing ≡ x)) e c.new.ensures.setting
+    if_ok c.new.result (λ session is. is.setting ∙ e) c.new.ensures.opened

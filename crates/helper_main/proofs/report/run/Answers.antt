@@ -1,33 +1,51 @@
--- The parties are honest ones of the session, and its log is the script's serial history, for which it has room.
-use Rattle.std.proofs.Common.{◌∙◌, ap, Err, arith}
+-- The parties are those of the session, and its log is the script's serial history, for which it has room.
+use Rattle.std.proofs.Common.{◌∙◌, sym, ap, map, get_or}
+use Rattle.std.specs.List.{range_with_len}
+use Rattle.std.proofs.lemmas.List.Elements.{All-same}
 use Rattle.param_set.specs.declared.params.Params.{Params}
 use Rattle.session_state.specs.Standings.{setting}
 use Rattle.session_script.specs.Scripts.{asked}
-use Rattle.helper_main.proofs.Session.{honest_all, seeds_are, history_is}
-use Rattle.helper_main.proofs.Room.{history_short, never_full}
+use Rattle.helper_main.specs.Parties.{number_of, IsPartyOf}
+use Rattle.helper_main.proofs.Session.{seeds_are, able, honest}
+use Rattle.helper_main.proofs.Logged.{log_is, never_full}
 use Rattle.helper_main.proofs.report.run.Goals as goal
 
-pub serial-requires-clause-told : goal.serial-requires-clause-told
-serial-requires-clause-told c κs = λ _.
+pub serial-requires-clause-parties : goal.serial-requires-clause-parties
+serial-requires-clause-parties c κs =
     let a = asked c.args.script.now in
+    let p = c.args.script.now.params in
     let session = c.in_ok-session.session in
     let seeds = seeds_are a session.roll.master session.standing.params.parties c.in_ok-session.ensures.master (ap (λ (z : Params). z.parties) c.in_ok-session.ensures.params) in
-    honest_all a c.args.script.now.params (setting session.standing) _ c.in_ok-parties.parties.items c.as_slice.result.now c.in_ok-parties.ensures.parties c.as_slice.ensures.value c.in_ok-session.ensures.setting seeds
+    let ps = c.as_slice.result.now in
+    let all = All-same (IsPartyOf p a) ps c.in_ok-parties.parties.items c.as_slice.ensures.value c.in_ok-parties.ensures.parties in
+    record {
+      numbers = ap (map number_of) c.as_slice.ensures.value ∙ c.in_ok-parties.ensures.numbers ∙ ap (λ (z : Params). range_with_len 1 z.parties) (sym c.in_ok-session.ensures.params);
+      each = λ k d inside.
+          let party = get_or ps k d in
+          let h = all k d inside in
+          record {
+            able = able a p session.standing.params (setting session.standing) party c.in_ok-session.ensures.params c.in_ok-session.ensures.setting h;
+            honest = λ _. honest a p (setting session.standing) _ party c.in_ok-session.ensures.setting seeds h;
+          };
+    }
 
 pub returns-in-Ok-clause-log : goal.returns-in-Ok-clause-log
 returns-in-Ok-clause-log c =
-    let session = c.in_ok-session.session in
-    c.in-Ok.ensures.run
-    ∙ history_is (asked c.args.script.now) (setting session.standing) session.log.items c.as_slice-2.result.now c.in_ok-session.ensures.setting c.in_ok-session.ensures.log c.requires.no_lanes c.as_slice-2.ensures
+    let a = asked c.args.script.now in
+    let before = c.in_ok-session.session in
+    let now = c.serial.new.session in
+    let same = ap (λ z. z.known) c.serial.ensures.about in
+    let most = ap (λ k. k.most) same ∙ c.in_ok-session.ensures.most in
+    log_is a (setting before.standing) (setting now.standing) before.log.items now.log.items c.as_slice-2.result.now c.in_ok-session.ensures.setting
+    (ap (λ k. k.setting) same ∙ c.in_ok-session.ensures.setting) c.in_ok-session.ensures.log c.as_slice-2.ensures c.requires.no_lanes
+    now.legal (rw (sym most) now.sound.few) c.in-Ok.ensures.done
 
 pub unreachable-requires : goal.unreachable-requires
 unreachable-requires c =
     let a = asked c.args.script.now in
     let before = c.in_ok-session.session in
     let now = c.serial.new.session in
-    let full = c.serial.ensures.spent (c.in-Err-Spent.is ∙ ap Err c.in-Err-Spent.field-0-is) in
-    let most = c.serial.ensures.most in
-    let room = c.in_ok-session.ensures.room in
-    let short = history_short a c.requires.accepted c.requires.no_lanes in
-    let few = never_full a (setting before.standing) before.log.items now.log.items c.as_slice-2.result.now short c.in_ok-session.ensures.setting c.in_ok-session.ensures.log c.requires.no_lanes c.as_slice-2.ensures c.in-Err-Spent.ensures.stopped in
-    omega arith
+    let same = ap (λ z. z.known) c.serial.ensures.about in
+    never_full a (setting before.standing) (setting now.standing) before.log.items now.log.items c.as_slice-2.result.now before.max_calls _ c.requires.accepted c.in_ok-session.ensures.setting
+    (ap (λ k. k.setting) same ∙ c.in_ok-session.ensures.setting) c.in_ok-session.ensures.log c.as_slice-2.ensures c.requires.no_lanes c.in_ok-session.ensures.most
+    now.legal c.in-Err-Spent.field-0-is c.in-Err-Spent.ensures.stopped
