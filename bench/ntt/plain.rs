@@ -1,5 +1,6 @@
 //! The transforms of `ring_ntt` in plain Rust: the same butterflies with Shoup's quotients and lazily
-//! reduced entries, walked level by level. Prints what `ntt_bench measure` prints.
+//! reduced entries, walked level by level; and the products of `mod_ring` by them. Prints what
+//! `ntt_bench measure` prints, or with the word `products` what `ntt_bench products` prints.
 
 use std::time::Instant;
 
@@ -15,6 +16,7 @@ struct Tables {
     onward: Table,
     back: Table,
     scale: (u64, u64),
+    carry: (u64, u64),
 }
 
 fn product(x: u64, y: u64, q: u64) -> u64 {
@@ -53,11 +55,13 @@ fn tables(q: u64, n: usize, psi: u64) -> Tables {
     assert_eq!(power(psi, n as u64, q), q - 1);
     let inverse = q - power(psi, n as u64 - 1, q);
     let scale = power(q / 2 + 1, n.trailing_zeros() as u64, q);
+    let carry = power(2, 64, q);
     Tables {
         modulus: q,
         onward: table(q, n, psi),
         back: table(q, n, inverse),
         scale: (scale, quotient(scale, q)),
+        carry: (carry, quotient(carry, q)),
     }
 }
 
@@ -123,6 +127,46 @@ fn inverse(t: &Tables, a: &mut [u64]) {
     }
 }
 
+#[inline(never)]
+fn multiply_into(t: &Tables, a: &mut [u64], b: &[u64]) {
+    let q = t.modulus;
+    let unit = quotient(1, q);
+    for (x, y) in a.iter_mut().zip(b) {
+        let whole = *x as u128 * *y as u128;
+        let high = scaled((whole >> 64) as u64, t.carry.0, t.carry.1, q);
+        let low = scaled(whole as u64, 1, unit, q);
+        *x = lowered(lowered(high + low, 2 * q), q);
+    }
+}
+
+/// The product of two polynomials, each copied.
+#[inline(never)]
+fn polynomial(t: &Tables, f: &[u64], g: &[u64]) -> Vec<u64> {
+    let mut values = f.to_vec();
+    let mut others = g.to_vec();
+    forward(t, &mut values);
+    forward(t, &mut others);
+    multiply_into(t, &mut values, &others);
+    inverse(t, &mut values);
+    values
+}
+
+fn measure_products(q: u64, n: usize, psi: u64) {
+    let t = tables(q, n, psi);
+    let g = vec![1; n];
+    let mut f = vec![1; n];
+    let mut products = Vec::new();
+    for _ in 0..ROUNDS {
+        let start = Instant::now();
+        for _ in 0..16 {
+            f = polynomial(&t, &f, &g);
+        }
+        products.push(start.elapsed().as_nanos());
+    }
+    products.sort_unstable();
+    println!("{q} {n} {} {}", products[ROUNDS / 2] / 16, f[0]);
+}
+
 fn measure(q: u64, n: usize, psi: u64) {
     let t = tables(q, n, psi);
     let mut a = vec![1; n];
@@ -147,6 +191,11 @@ fn measure(q: u64, n: usize, psi: u64) {
 }
 
 fn main() {
+    if std::env::args().skip(1).any(|word| word == "products") {
+        measure_products(31525197391593473, 1024, 1742471823828513);
+        measure_products(31525197391593473, 4096, 10685641567815319);
+        return;
+    }
     measure(31525197391593473, 1024, 1742471823828513);
     measure(31525197391593473, 4096, 10685641567815319);
     measure(4611686018427322369, 1024, 2953159431647451165);

@@ -1,3 +1,2 @@
 pub mod Filled
 pub mod Fits
-pub mod Sums

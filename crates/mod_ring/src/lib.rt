@@ -3,16 +3,17 @@
 //!
 //! A `Poly` has n coefficients, each a residue from 0 to q - 1, lowest degree first, and contracts
 //! see it as that list. Each operation gives the value that the ring's definition gives (Fan and
-//! Vercauteren 2012, section 2), and what it gives back is a polynomial of the ring again. Every call
-//! has the condition that the polynomials which it takes fit the ring. Nothing is said of time.
+//! Vercauteren 2012, section 2), and what it gives back is a polynomial of the ring again. Products go by
+//! the transforms of `ring_ntt`, whose tables a `Ring` holds. Every call has the condition that the
+//! polynomials which it takes fit the ring. Nothing is said of time.
 #![tactic(auto)]
 
 mod entries;
 mod pairs;
 mod poly;
-mod products;
 mod ring;
 mod signs;
+mod tabled;
 
 pub use mod_inverse::inverse;
 pub use pairs::{Ciphertext, PublicKey};

@@ -3,30 +3,32 @@ ghost use Rattle.ring_spec.specs.Ring.{IsPoly, residue, residues, signed, ring_s
 
 use crate::entries::{add_entries, neg_entries, scale_entries, sub_entries};
 use crate::poly::{Poly, Polys};
-use crate::products::product;
 use crate::signs::residue_of;
+use crate::tabled::Tabled;
 use param_set::Params;
 use std::alloc::{AllocError, Global};
 
-/// The ring of some parameters, in which polynomials have n coefficients below q.
+/// The ring of some parameters, in which polynomials have n coefficients below q, with the tables of its
+/// transforms.
 #[derive(Drop)]
 pub struct Ring {
-    params: Params,
+    params: Tabled,
 }
 
 impl Ring {
-    /// The ring R_q of the parameters.
-    pub fn new(_alloc: Global, params: &Params) -> Result<Ring, AllocError>
+    /// The ring R_q of the parameters. Their psi always has tables, so there is no other way of a product.
+    pub fn new(alloc: Global, params: &Params) -> Result<Ring, AllocError>
         ensures { IfOk result (λ ring. ring.params ≡ params.now) }
     {
-        Ok(Ring { params: *params })
+        let params = Tabled::new(alloc, params)?;
+        Ok(Ring { params })
     }
 
     /// The parameters of the ring.
     pub fn params(&self) -> &Params
         ensures { result.now ≡ self.now.params }
     {
-        &self.params
+        self.params.params()
     }
 }
 
@@ -35,7 +37,7 @@ pub fn zero(alloc: Global, ring: &Ring) -> Result<Poly, AllocError>
     ensures value { IfOk result (λ f. f ≡ replicate ring.now.params.n 0) }
     ensures fits { IfOk result (λ f. IsPoly ring.now.params.q ring.now.params.n f) }
 {
-    let coeffs = vec![in alloc; 0; ring.params.n() as usize]?;
+    let coeffs = vec![in alloc; 0; ring.params().n() as usize]?;
     Ok(Poly { coeffs })
 }
 
@@ -54,7 +56,7 @@ pub fn of_signed(alloc: Global, ring: &Ring, coeffs: &[i64]) -> Result<Poly, All
     ensures value { IfOk result (λ f. f ≡ residues ring.now.params.q ring.now.params.n (signed coeffs.now)) }
     ensures fits { IfOk result (λ f. IsPoly ring.now.params.q ring.now.params.n f) }
 {
-    let coeffs = residues_of(alloc, ring.params.q(), coeffs)?;
+    let coeffs = residues_of(alloc, ring.params().q(), coeffs)?;
     Ok(Poly { coeffs })
 }
 
@@ -73,7 +75,7 @@ pub fn add_into(ring: &Ring, acc: &mut Poly, f: &Poly)
     ensures value { acc.new ≡ ring_sum ring.now.params.q ring.now.params.n acc.old f.now }
     ensures fits { IsPoly ring.now.params.q ring.now.params.n acc.new }
 {
-    add_entries(ring.params.q(), acc.coeffs.as_mut_slice(), f.coeffs());
+    add_entries(ring.params().q(), acc.coeffs.as_mut_slice(), f.coeffs());
 }
 
 /// Adds f to the polynomial at a place of a list; all others stay.
@@ -93,7 +95,7 @@ pub fn sub_into(ring: &Ring, acc: &mut Poly, f: &Poly)
     ensures value { acc.new ≡ ring_difference ring.now.params.q ring.now.params.n acc.old f.now }
     ensures fits { IsPoly ring.now.params.q ring.now.params.n acc.new }
 {
-    sub_entries(ring.params.q(), acc.coeffs.as_mut_slice(), f.coeffs());
+    sub_entries(ring.params().q(), acc.coeffs.as_mut_slice(), f.coeffs());
 }
 
 /// Makes acc its negative.
@@ -102,7 +104,7 @@ pub fn neg_into(ring: &Ring, acc: &mut Poly)
     ensures value { acc.new ≡ ring_negative ring.now.params.q ring.now.params.n acc.old }
     ensures fits { IsPoly ring.now.params.q ring.now.params.n acc.new }
 {
-    neg_entries(ring.params.q(), acc.coeffs.as_mut_slice());
+    neg_entries(ring.params().q(), acc.coeffs.as_mut_slice());
 }
 
 /// Multiplies acc by a number below q.
@@ -112,10 +114,10 @@ pub fn scale_into(ring: &Ring, acc: &mut Poly, k: u64)
     ensures value { acc.new ≡ ring_multiple ring.now.params.q ring.now.params.n k acc.old }
     ensures fits { IsPoly ring.now.params.q ring.now.params.n acc.new }
 {
-    scale_entries(ring.params.q(), acc.coeffs.as_mut_slice(), k);
+    scale_entries(ring.params().q(), acc.coeffs.as_mut_slice(), k);
 }
 
-/// The product of f and g.
+/// The product of f and g, by transforms.
 #[tactic(auto, using(crate::proofs::Fits::fits))]
 pub fn mul(alloc: Global, ring: &Ring, f: &Poly, g: &Poly) -> Result<Poly, AllocError>
     requires left { IsPoly ring.now.params.q ring.now.params.n f.now }
@@ -123,6 +125,6 @@ pub fn mul(alloc: Global, ring: &Ring, f: &Poly, g: &Poly) -> Result<Poly, Alloc
     ensures value { IfOk result (λ h. h ≡ ring_product ring.now.params.q ring.now.params.n f.now g.now) }
     ensures fits { IfOk result (λ h. IsPoly ring.now.params.q ring.now.params.n h) }
 {
-    let coeffs = product(alloc, ring.params.q(), f.coeffs(), g.coeffs())?;
+    let coeffs = ring.params.product(alloc, f.coeffs(), g.coeffs())?;
     Ok(Poly { coeffs })
 }

@@ -17,6 +17,8 @@ mod party_sets;
 #[cfg(test)]
 mod ring;
 #[cfg(test)]
+mod schoolbook;
+#[cfg(test)]
 mod tapes;
 #[cfg(test)]
 mod transforms;

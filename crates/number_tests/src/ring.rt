@@ -1,15 +1,18 @@
-//! Each call once, over the ring with n = 8 and q = 31525197391593473.
+//! Each call once, over the ring with n = 8 and q = 31525197391593473; and products at other lengths.
 ghost use Rattle.std.specs.Prelude.{◌≡◌, ◌<◌, length, IfOk};
 ghost use Rattle.ring_spec.specs.Ring.{IsPoly};
 
+use crate::schoolbook::schoolbook;
 use mod_ring::{
     Poly, Polys, Ring, add_into, centre, mul, neg_into, of_residues, of_signed, residue_of,
     scale_into, sub_into, zero,
 };
-use param_set::Params;
+use param_set::{Params, RawParams};
+use ring_draws::uniform;
 use std::alloc::{AllocError, Global};
 use std::process::Abort;
 use std::test::Fail;
+use word_tape::Tape;
 
 const Q: u64 = 31_525_197_391_593_473;
 
@@ -79,6 +82,45 @@ fn wraps_around_with_the_sign_changed(rt: HostRuntime) -> Result<(), Fail> {
     let x7 = of_residues(&params, vec![in rt.alloc(); 0, 0, 0, 0, 0, 0, 0, 1]?);
     let product = mul(rt.alloc(), &ring, &x7, &x)?;
     assert_eq!(rt; product.coeffs(), MINUS_ONE.as_slice());
+    Ok(())
+}
+
+/// A length, a modulus, and a root of the parameters. The last two moduli are composite.
+const RINGS: [(u64, u64, u64); 5] = [
+    (8, Q, 3),
+    (64, Q, 3),
+    (1024, Q, 3),
+    (8, 9_839_901_637_616_593, 3_862_945_158_657_909),
+    (64, 6_810_591_325_885_313, 3_775_157_627_830_092),
+];
+
+/// Compares the product of two uniform polynomials with the schoolbook one.
+fn agrees(alloc: Global, params: &Params) -> Result<bool, AllocError> {
+    let ring = Ring::new(alloc, params)?;
+    let mut tape = Tape::new([0; 32], 0);
+    let f = uniform(alloc, &ring, &mut tape)?;
+    let g = uniform(alloc, &ring, &mut tape)?;
+    let product = mul(alloc, &ring, &f, &g)?;
+    let sums = schoolbook(alloc, f.coeffs(), g.coeffs(), params.q())?;
+    Ok(product.coeffs() == sums.as_slice())
+}
+
+#[test]
+fn multiplies_as_by_the_definition(rt: HostRuntime) -> Result<(), Fail> {
+    for (n, q, root) in RINGS {
+        let params = Params::check(&RawParams {
+            n,
+            q,
+            t: 16,
+            root,
+            digit_bits: 8,
+            err: 1,
+            flood: 1,
+            parties: 1,
+            threshold: 1,
+        })?;
+        assert!(rt; agrees(rt.alloc(), &params)?, "{n} modulo {q}");
+    }
     Ok(())
 }
 

@@ -1,8 +1,9 @@
-//! Products by transforms, against the sums that define them.
+//! Sums and products by transforms, against their definitions.
 
 ghost use Rattle.std.specs.Prelude.{◌≡◌, ◌<◌, IfOk};
 ghost use Rattle.ring_spec.specs.Ring.{IsPoly, ring_product};
 
+use crate::schoolbook::{residue, schoolbook};
 use ring_ntt::{NttFault, Tables};
 use std::alloc::{AllocError, Global};
 use std::process::Abort;
@@ -43,14 +44,6 @@ fn multiply(tables: &Tables, a: &mut [u64], b: &mut [u64])
     tables.inverse(a);
 }
 
-/// x * y modulo q.
-fn product(x: u64, y: u64, q: u64) -> u64
-    requires { 0 < q }
-    ensures { result < q }
-{
-    (x as u128 * y as u128 % q as u128) as u64
-}
-
 /// n residues, each a multiple of the one before it.
 fn sample(alloc: Global, q: u64, n: u64, first: u64) -> Result<Vec<u64>, AllocError>
     requires { 0 < q }
@@ -59,7 +52,7 @@ fn sample(alloc: Global, q: u64, n: u64, first: u64) -> Result<Vec<u64>, AllocEr
     let mut f = Vec::new(alloc);
     let mut x = first;
     'entries: for k in 0..n {
-        x = product(x, 6364136223846793005, q);
+        x = residue(x, 6364136223846793005, q);
         f.push(x)?;
     }
     Ok(f)
@@ -77,24 +70,6 @@ fn monomial(alloc: Global, q: u64, n: u64, place: u64) -> Result<Vec<u64>, Alloc
     Ok(f)
 }
 
-/// The coefficient at k of the product, by its definition.
-fn coefficient(f: &[u64], g: &[u64], k: usize, q: u64) -> u64
-    requires { 0 < q }
-{
-    let mut sum = 0;
-    for (i, x) in f.iter().enumerate() {
-        let (j, wraps) = if i <= k {
-            (k - i, false)
-        } else {
-            (f.len().saturating_sub(i - k), true)
-        };
-        let term = product(*x, g.get(j).copied().unwrap_or(0), q);
-        let signed = if wraps { q - term } else { term };
-        sum = ((sum as u128 + signed as u128) % q as u128) as u64;
-    }
-    sum
-}
-
 /// The product of two samples by transforms.
 fn by_transforms(alloc: Global, tables: &Tables, q: u64, n: u64) -> Result<Vec<u64>, AllocError>
     requires some { 0 < q }
@@ -107,18 +82,6 @@ fn by_transforms(alloc: Global, tables: &Tables, q: u64, n: u64) -> Result<Vec<u
     Ok(a)
 }
 
-/// Whether these are the coefficients of a product, by its definition.
-fn are_sums(product: &[u64], f: &[u64], g: &[u64], q: u64) -> bool
-    requires { 0 < q }
-{
-    for (k, x) in product.iter().enumerate() {
-        if *x != coefficient(f, g, k, q) {
-            return false;
-        }
-    }
-    product.len() == f.len()
-}
-
 /// Compares a product by transforms with the sums.
 fn agrees<R: Abort>(rt: &R, alloc: Global, q: u64, psi: u64, n: u64) -> Result<bool, NttFault> {
     assert!(rt; q > 1);
@@ -126,7 +89,47 @@ fn agrees<R: Abort>(rt: &R, alloc: Global, q: u64, psi: u64, n: u64) -> Result<b
     let product = by_transforms(alloc, &tables, q, n)?;
     let f = sample(alloc, q, n, 3)?;
     let g = sample(alloc, q, n, 5)?;
-    Ok(are_sums(product.as_slice(), f.as_slice(), g.as_slice(), q))
+    let sums = schoolbook(alloc, f.as_slice(), g.as_slice(), q)?;
+    Ok(product.as_slice() == sums.as_slice())
+}
+
+/// The sum of two samples, added as values.
+fn summed(alloc: Global, tables: &Tables, q: u64, n: u64) -> Result<Vec<u64>, AllocError>
+    requires some { 0 < q }
+    requires modulus { tables.now.modulus ≡ q }
+    requires length { tables.now.length ≡ n }
+{
+    let mut a = sample(alloc, q, n, 3)?;
+    let mut b = sample(alloc, q, n, 5)?;
+    tables.forward(a.as_mut_slice());
+    tables.forward(b.as_mut_slice());
+    tables.add_into(a.as_mut_slice(), b.as_slice());
+    tables.inverse(a.as_mut_slice());
+    Ok(a)
+}
+
+/// Whether each entry is the sum of those of f and g.
+fn are_sums(sum: &[u64], f: &[u64], g: &[u64], q: u64) -> bool
+    requires { 0 < q }
+{
+    for (k, x) in sum.iter().enumerate() {
+        let left = f.get(k).copied().unwrap_or(0);
+        let right = g.get(k).copied().unwrap_or(0);
+        if *x as u128 != (left as u128 + right as u128) % q as u128 {
+            return false;
+        }
+    }
+    sum.len() == f.len()
+}
+
+/// Compares a sum of values with the sum.
+fn adds<R: Abort>(rt: &R, alloc: Global, q: u64, psi: u64, n: u64) -> Result<bool, NttFault> {
+    assert!(rt; q > 1);
+    let tables = tables_for(rt, alloc, q, n, psi)?;
+    let sum = summed(alloc, &tables, q, n)?;
+    let f = sample(alloc, q, n, 3)?;
+    let g = sample(alloc, q, n, 5)?;
+    Ok(are_sums(sum.as_slice(), f.as_slice(), g.as_slice(), q))
 }
 
 /// The product of X^(n-1) and X by transforms.
@@ -164,8 +167,9 @@ fn wraps<R: Abort>(rt: &R, alloc: Global, q: u64, psi: u64, n: u64) -> Result<bo
 }
 
 #[test]
-fn products(rt: HostRuntime) -> Result<(), Fail> {
+fn sums_and_products(rt: HostRuntime) -> Result<(), Fail> {
     for (q, psi, n) in CASES {
+        assert!(rt; adds(&rt, rt.alloc(), q, psi, n)?, "modulo {q}");
         assert!(rt; agrees(&rt, rt.alloc(), q, psi, n)?, "modulo {q}");
         assert!(rt; wraps(&rt, rt.alloc(), q, psi, n)?, "modulo {q}");
     }

@@ -22,7 +22,7 @@ pub length-transform : (q psi d : ℕ) (f : List ℕ) → length (transform q ps
 unfolding transform
 length-transform q psi d f = length-map (bit_reversed d) (value_at q (2 ^ d) psi (entry f)) ∙ length-bit_reversed d
 
-transform_at : (q psi d i : ℕ) (f : List ℕ) → i < 2 ^ d → entry (transform q psi d f) i ≡ value_at q (2 ^ d) psi (entry f) (reversed d i)
+pub transform_at : (q psi d i : ℕ) (f : List ℕ) → i < 2 ^ d → entry (transform q psi d f) i ≡ value_at q (2 ^ d) psi (entry f) (reversed d i)
 unfolding transform reversed
 transform_at q psi d i f l = let n = length-bit_reversed d in get_or-map (value_at q (2 ^ d) psi (entry f)) (bit_reversed d) i 0 0 (omega (arith, n))
 

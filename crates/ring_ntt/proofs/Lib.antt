@@ -7,6 +7,9 @@ pub mod Undone
 pub mod Residues
 pub mod Products
 pub mod Laws
+pub mod Interpolation
+pub mod Sides
+pub mod Ready
 pub mod Shoup
 pub mod Squarings
 pub mod WordLaws

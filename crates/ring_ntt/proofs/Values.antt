@@ -98,7 +98,7 @@ turns q n psi r l e =
     ∙ pow_same q (psi ^ (2 * n)) 1 r (full_turn q n psi l e)
     ∙ ap (λ z. z % q) (one-pow r)
 
-left_power : (q t d k a s psi r : ℕ) → 1 < q → psi ^ (2 ^ t) % q ≡ q - 1 → IsPlaced t (suc d) k a s → (psi ^ (a + s * (2 * r))) ^ (2 ^ d) % q ≡ get_or (powers q t psi) k 0 % q
+pub left_power : (q t d k a s psi r : ℕ) → 1 < q → psi ^ (2 ^ t) % q ≡ q - 1 → IsPlaced t (suc d) k a s → (psi ^ (a + s * (2 * r))) ^ (2 ^ d) % q ≡ get_or (powers q t psi) k 0 % q
 left_power q t d k a s psi r l e h =
     let p = pow-suc 2 d in
     let ap1 : a * 2 ^ suc d ≡ a * 2 ^ d * 2 = ap (λ z. a * z) p ∙ omega arith in
@@ -116,7 +116,7 @@ negative q m z e l =
     let a = ap (λ y. z * y) e in
     shift_same q (z * m) (q - z) 1 z (omega (arith, e, a))
 
-right_power : (q t d k a s psi r : ℕ) → 1 < q → psi ^ (2 ^ t) % q ≡ q - 1 → IsPlaced t (suc d) k a s → (psi ^ (a + s * (2 * r + 1))) ^ (2 ^ d) % q ≡ (q - get_or (powers q t psi) k 0) % q
+pub right_power : (q t d k a s psi r : ℕ) → 1 < q → psi ^ (2 ^ t) % q ≡ q - 1 → IsPlaced t (suc d) k a s → (psi ^ (a + s * (2 * r + 1))) ^ (2 ^ d) % q ≡ (q - get_or (powers q t psi) k 0) % q
 right_power q t d k a s psi r l e h =
     let p = pow-suc 2 d in
     let sp : s * 2 ^ suc d ≡ s * 2 ^ d * 2 = ap (λ z. s * z) p ∙ omega arith in
@@ -165,7 +165,7 @@ map_equal : (f g : ℕ → ℕ) → ((r : ℕ) → f r ≡ g r) → (xs : List �
 map_equal f g e [] = refl
 map_equal f g e (x ∷ xs) = let a = e x in let b = map_equal f g e xs in cc
 
-root_placed : (t : ℕ) → 0 < t → IsPlaced t t 1 1 2
+pub root_placed : (t : ℕ) → 0 < t → IsPlaced t t 1 1 2
 root_placed zero l = absurd (omega arith)
 root_placed (suc t) l =
     let p = pow-suc 2 t in

@@ -1,7 +1,7 @@
 ghost use Rattle.std.specs.Prelude.{◌≡◌, ℕ, ◌+◌, ◌-◌, ◌*◌, ◌/◌, ◌%◌, ◌^◌, ◌<◌, ◌≤◌, List, length, get_or, IfOk, IfErr, IsTrue};
 ghost use Rattle.std.specs.Int.{is_power_of_two};
-ghost use Rattle.ring_spec.specs.Ring.{IsPoly, ring_product};
-ghost use Rattle.ring_ntt.specs.Transform.{transform, entrywise};
+ghost use Rattle.ring_spec.specs.Ring.{IsPoly, ring_sum, ring_product};
+ghost use Rattle.ring_ntt.specs.Transform.{transform, inverse_transform, entrywise};
 ghost use Rattle.ring_ntt.specs.Words.{quotient_of};
 
 use crate::fault::NttFault;
@@ -83,6 +83,8 @@ impl Tables {
     pub fn forward(&self, a: &mut [u64])
         requires { IsPoly self.now.modulus self.now.length a.old }
         ensures values { let t = self.now in a.new ≡ transform t.modulus t.root t.levels a.old }
+        ensures polynomial { let t = self.now in
+            inverse_transform t.modulus t.root t.levels a.new ≡ a.old }
         ensures residues { IsPoly self.now.modulus self.now.length a.new }
     {
         forward::whole(&self.onward, a);
@@ -91,6 +93,8 @@ impl Tables {
     /// Takes values back to the polynomial that has them, in place.
     pub fn inverse(&self, a: &mut [u64])
         requires { IsPoly self.now.modulus self.now.length a.old }
+        ensures polynomial { let t = self.now in
+            a.new ≡ inverse_transform t.modulus t.root t.levels a.old }
         ensures undoes { let t = self.now in
             (f : List ℕ) → IsPoly t.modulus t.length f →
             a.old ≡ transform t.modulus t.root t.levels f → a.new ≡ f }
@@ -99,6 +103,26 @@ impl Tables {
     {
         backward::whole(&self.back, a);
         scale_down(a, self.scale, self.modulus);
+    }
+
+    /// Adds entry by entry. On transforms that is the sum of the polynomials.
+    pub fn add_into(&self, a: &mut [u64], b: &[u64])
+        requires left { IsPoly self.now.modulus self.now.length a.old }
+        requires right { IsPoly self.now.modulus self.now.length b.now }
+        ensures values { a.new ≡ ring_sum self.now.modulus self.now.length a.old b.now }
+        ensures residues { IsPoly self.now.modulus self.now.length a.new }
+        ensures sum { let t = self.now in
+            (f g : List ℕ) → a.old ≡ transform t.modulus t.root t.levels f →
+            b.now ≡ transform t.modulus t.root t.levels g →
+            a.new ≡ transform t.modulus t.root t.levels (ring_sum t.modulus t.length f g) }
+        ensures polynomial { let t = self.now in
+            inverse_transform t.modulus t.root t.levels a.new
+            ≡ ring_sum t.modulus t.length (inverse_transform t.modulus t.root t.levels a.old)
+            (inverse_transform t.modulus t.root t.levels b.now) }
+    {
+        'sums: for i in 0..a.len() {
+            a[i] = lowered(a[i] + b[i], self.modulus);
+        }
     }
 
     /// Multiplies entry by entry. On transforms that is the product of the polynomials.
@@ -113,6 +137,10 @@ impl Tables {
             b.now ≡ transform t.modulus t.root t.levels g →
             IsPoly t.modulus t.length (ring_product t.modulus t.length f g)
             × (a.new ≡ transform t.modulus t.root t.levels (ring_product t.modulus t.length f g)) }
+        ensures polynomial { let t = self.now in
+            inverse_transform t.modulus t.root t.levels a.new
+            ≡ ring_product t.modulus t.length (inverse_transform t.modulus t.root t.levels a.old)
+            (inverse_transform t.modulus t.root t.levels b.now) }
     {
         'entries: for i in 0..a.len() {
             a[i] = word_product(a[i], b[i], self.carry, self.unit, self.modulus);

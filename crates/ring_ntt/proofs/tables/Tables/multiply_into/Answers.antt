@@ -1,8 +1,10 @@
 use Rattle.std.proofs.Common.{◌≡◌, ◌*◌, ◌%◌, ◌^◌, ◌<◌, length, get_or, refl, sym, ◌∙◌, ap, subst, arith}
 use Rattle.ring_spec.specs.Ring.{IsPoly, ring_product}
-use Rattle.ring_ntt.specs.Transform.{transform, entrywise}
+use Rattle.ring_ntt.specs.Transform.{transform, inverse_transform, entrywise}
 use Rattle.ring_ntt.proofs.Slots.{set_done, set_rest}
 use Rattle.ring_ntt.proofs.Laws.{entrywise-is, entrywise-poly, entrywise-transform, ring_product-poly}
+use Rattle.ring_ntt.proofs.Sides.{inverse-product}
+use Rattle.ring_ntt.proofs.Ready.{has_root, levelled}
 use Rattle.ring_ntt.proofs.tables.Tables.multiply_into.Goals as goal
 
 pub entries-init : goal.entries-init
@@ -51,3 +53,17 @@ returns-clause-product c = λ f g pf pg ea eb.
           ∙ entrywise-transform q t.root t.levels f g (omega (arith, t.at_least_three)) root
           ∙ ap (λ z. transform q t.root t.levels (ring_product q z f g)) (sym t.whole),
     )
+
+pub returns-clause-polynomial : goal.returns-clause-polynomial
+returns-clause-polynomial c =
+    let t = c.args.self.now in
+    let q = t.modulus in
+    let a = c.args.a.now in
+    let b = c.args.b.now in
+    let n = c.requires.left.entries in
+    let values : c.entries.a ≡ entrywise q t.length a b =
+    entrywise-is q t.length a b c.entries.a (omega (arith, n)) (λ k h. c.entries.invariant.done k (omega (arith, n))) in
+    ap (inverse_transform q t.root t.levels) values
+    ∙ ap (λ z. inverse_transform q t.root t.levels (entrywise q z a b)) t.whole
+    ∙ inverse-product q t.levels t.root a b (has_root t) (levelled t a c.requires.left) (levelled t b c.requires.right)
+    ∙ ap (λ z. ring_product q z (inverse_transform q t.root t.levels a) (inverse_transform q t.root t.levels b)) (sym t.whole)

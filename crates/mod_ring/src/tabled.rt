@@ -1,0 +1,67 @@
+ghost use Rattle.std.specs.Prelude.{◌≡◌, IfOk};
+ghost use Rattle.ring_spec.specs.Ring.{IsPoly, ring_product};
+
+use param_set::Params;
+use ring_ntt::{NttFault, Tables};
+use std::alloc::{AllocError, Global};
+use std::marker::Model;
+
+/// Parameters, with the tables of the transforms by their psi. Contracts see the parameters alone.
+#[derive(Drop)]
+pub(crate) struct Tabled {
+    params: Params,
+    tables: Tables,
+    ghost modulus: { tables.modulus ≡ params.q },
+    ghost length: { tables.length ≡ params.n },
+}
+
+impl Model for Tabled {
+    ghost use Rattle.param_set.specs.declared.params.Params.{Params};
+
+    ghost Value = { Params };
+
+    ghost view = { λ a. a.params };
+}
+
+impl Tabled {
+    /// psi^n is -1, so tables are never refused.
+    pub(crate) fn new(alloc: Global, params: &Params) -> Result<Tabled, AllocError>
+        ensures { IfOk result (λ tabled. tabled ≡ params.now) }
+    {
+        match Tables::new(alloc, params.q(), params.n(), params.psi()) {
+            Ok(tables) => Ok(Tabled {
+                params: *params,
+                tables,
+            }),
+            Err(NttFault::NoMemory) => Err(AllocError),
+            Err(NttFault::NoRoot { .. }) => unreachable!(),
+        }
+    }
+
+    pub(crate) fn params(&self) -> &Params
+        ensures { result.now ≡ self.now }
+    {
+        &self.params
+    }
+
+    /// The product of f and g: both go to their values, which are multiplied, and the product comes back.
+    pub(crate) fn product(
+        &self,
+        alloc: Global,
+        f: &[u64],
+        g: &[u64],
+    ) -> Result<Vec<u64>, AllocError>
+        requires left { IsPoly self.now.q self.now.n f.now }
+        requires right { IsPoly self.now.q self.now.n g.now }
+        ensures { IfOk result (λ v. v.items ≡ ring_product self.now.q self.now.n f.now g.now) }
+    {
+        let mut values = f.to_vec(alloc)?;
+        let mut others = g.to_vec(alloc)?;
+        self.tables.forward(values.as_mut_slice());
+        self.tables.forward(others.as_mut_slice());
+        self.tables
+            .multiply_into(values.as_mut_slice(), others.as_slice());
+        self.tables.inverse(values.as_mut_slice());
+        Ok(values)
+    }
+}
