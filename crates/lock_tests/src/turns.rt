@@ -1,108 +1,76 @@
-//! Two callers take turns at a list of pairs, each in a thread of its own.
-ghost use Rattle.std.specs.Prelude.{◌≡◌, ◌<◌, ℕ, All, Some, None, option_map, length, slice_index_or};
-ghost use Rattle.std.proofs.Common.{rules};
-ghost use Rattle.turn_lock.specs.Passes.{id_of, lock_of, number_of, IsSamePass};
+//! Two callers take turns at a list of sums, each in a thread of its own.
+ghost use Rattle.std.specs.Prelude.{◌≡◌};
+ghost use Rattle.turn_lock.specs.Passes.{id_of, lock_of, seen, IsSamePass};
+ghost use Rattle.lock_tests.specs.Sums.{IsSumIn};
 
-use std::alloc::Global;
+use crate::sums::{Add, Sums};
 use std::sync::Wait;
 use std::test::Fail;
 use std::thread;
 use std::thread::Threads;
-use turn_lock::{Act, Kept, Pass, Passes, TurnLock};
+use turn_lock::{Pass, Passes, TurnLock};
 
-/// A caller's number, and the sum of all numbers up to here.
-#[derive(Clone, Copy, Debug, PartialEq, Eq)]
-pub struct Pair {
-    pub number: u32,
-    pub sum: u64,
-}
-
-#[derive(Drop)]
-pub struct Sums {
-    pub pairs: Vec<Pair>,
-}
-
-impl Kept for Sums {
-    type Fixed = ();
-
-    type Entry = Pair;
-
-    ghost fixed = { λ _. tt };
-
-    ghost entries = { λ s. s.pairs.items };
-
-    ghost number = { λ p. p.number };
-
-    ghost IsLegal = { λ _ _. Unit {0} };
-
-    ghost legal = { λ _. tt };
-}
-
-/// Adds a pair. The reply is its sum, or `None` where there is no memory, or the sum is too large.
-#[derive(Drop)]
-pub struct Add {
-    pub number: u32,
-}
-
-impl Act<Sums> for Add {
-    type Reply = Option<u64>;
-
-    ghost number = { λ a. a.number };
-
-    ghost MayAct = { λ _ _. Unit {0} };
-
-    ghost appends = { λ a r. option_map (λ sum. record { number = a.number; sum = sum }) r };
-
-    ghost Says = { λ _ _ _ _. Unit {0} };
-
-    fn act(self, value: &mut Sums) -> Option<u64> {
-        let last = value.pairs.last().map_or(0, |p| p.sum);
-        let sum = last.checked_add(self.number as u64)?;
-        let pair = Pair {
-            number: self.number,
-            sum,
-        };
-        match value.pairs.push(pair) {
-            Ok(()) => Some(sum),
-            Err(_) => None,
-        }
+// One turn. The caller knows a sum before, and then the sum that the turn came to.
+fn turn<R: Wait>(rt: &R, lock: &TurnLock<Sums>, pass: &mut Pass<Sums>, known: u64) -> u64
+    requires lock { lock_of pass.old ≡ id_of lock.now }
+    requires known { IsSumIn (seen pass.old) known }
+    ensures same { IsSamePass pass.old pass.new }
+    ensures sum { IsSumIn (seen pass.new) result }
+{
+    let number = pass.number();
+    match lock.take_turn(rt, pass, Add { number, known }) {
+        Some(told) => told.sum,
+        None => known,
     }
-
-    ghost signed = { Prim.search rules };
 }
 
 // Takes two turns.
-fn take_two<R: Wait>(rt: &R, lock: &TurnLock<Sums>, mut pass: Pass<Sums>) -> Pass<Sums>
-    requires { lock_of pass ≡ id_of lock.now }
-    ensures { IsSamePass pass result }
+fn take_two<R: Wait>(
+    rt: &R,
+    lock: &TurnLock<Sums>,
+    mut pass: Pass<Sums>,
+    known: u64,
+) -> (Pass<Sums>, u64)
+    requires lock { lock_of pass ≡ id_of lock.now }
+    requires known { IsSumIn (seen pass) known }
+    ensures same { IsSamePass pass result.0 }
+    ensures sum { IsSumIn (seen result.0) result.1 }
 {
-    let number = pass.number();
-    lock.take_turn(rt, &mut pass, Add { number });
-    lock.take_turn(rt, &mut pass, Add { number });
-    pass
+    let sum = turn(rt, lock, &mut pass, known);
+    let sum = turn(rt, lock, &mut pass, sum);
+    (pass, sum)
 }
 
-// Each pass takes two turns, in a thread of its own.
+// Each pass takes two turns, in a thread of its own. Both begin with a sum that both have seen.
 fn round<R: Threads + Wait + Sync>(
     rt: &R,
     lock: &TurnLock<Sums>,
     first: Pass<Sums>,
     second: Pass<Sums>,
-) -> (Pass<Sums>, Pass<Sums>)
+    known: u64,
+) -> ((Pass<Sums>, u64), (Pass<Sums>, u64))
     requires first { lock_of first ≡ id_of lock.now }
     requires second { lock_of second ≡ id_of lock.now }
-    ensures { IsSamePass first result.0 × IsSamePass second result.1 }
+    requires known_first { IsSumIn (seen first) known }
+    requires known_second { IsSumIn (seen second) known }
+    ensures same { IsSamePass first result.0.0 × IsSamePass second result.1.0 }
+    ensures sum_first { IsSumIn (seen result.0.0) result.0.1 }
+    ensures sum_second { IsSumIn (seen result.1.0) result.1.1 }
 {
     thread::join(
         rt,
-        || -> Pass<Sums>
-            requires { lock_of first ≡ id_of lock.now }
-            ensures { IsSamePass first result }
-        { take_two(rt, lock, first) },
-        || -> Pass<Sums>
-            requires { lock_of second ≡ id_of lock.now }
-            ensures { IsSamePass second result }
-        { take_two(rt, lock, second) },
+        || -> (Pass<Sums>, u64)
+            requires lock { lock_of first ≡ id_of lock.now }
+            requires known { IsSumIn (seen first) known }
+            ensures same { IsSamePass first result.0 }
+            ensures sum { IsSumIn (seen result.0) result.1 }
+        { take_two(rt, lock, first, known) },
+        || -> (Pass<Sums>, u64)
+            requires lock { lock_of second ≡ id_of lock.now }
+            requires known { IsSumIn (seen second) known }
+            ensures same { IsSamePass second result.0 }
+            ensures sum { IsSumIn (seen result.0) result.1 }
+        { take_two(rt, lock, second, known) },
     )
 }
 
@@ -115,24 +83,26 @@ fn two_callers_make_eight_pairs(rt: HostRuntime) -> Result<(), Fail> {
     let Passes { mut list } = passes;
     let second = list.pop().unwrap();
     let first = list.pop().unwrap();
-    let (mut first, mut second) = round(&rt, &lock, first, second);
+    let ((mut first, sum), (mut second, _)) = round(&rt, &lock, first, second, 0);
     let note = lock.note(&mut first);
     lock.meet(&mut second, note);
-    let (first, second) = round(&rt, &lock, first, second);
+    let ((first, of_first), (second, of_second)) = round(&rt, &lock, first, second, sum);
     list.push(first)?;
     list.push(second)?;
     let value = lock.close(Passes { list });
+    // No caller was told more than the sum at the end, and the last one was told just that.
+    let total = value.total();
+    let since_first = total - of_first;
+    let since_second = total - of_second;
     assert_eq!(rt; value.pairs.len(), 8);
-    let mut sum: u64 = 0;
-    let mut of_first: u64 = 0;
+    assert_eq!(rt; total, 12);
+    assert_eq!(rt; since_first.min(since_second), 0);
+    let mut made: u64 = 0;
     for pair in value.pairs.as_slice() {
-        sum = sum.wrapping_add(pair.number as u64);
-        assert_eq!(rt; pair.sum, sum);
         if pair.number == 1 {
-            of_first = of_first.wrapping_add(1);
+            made = made.wrapping_add(1);
         }
     }
-    assert_eq!(rt; of_first, 4);
-    assert_eq!(rt; sum, 12);
+    assert_eq!(rt; made, 4);
     Ok(())
 }
