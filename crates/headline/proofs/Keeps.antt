@@ -1,19 +1,17 @@
 -- The serial course keeps the headline.
-use Rattle.std.proofs.Common.{◌≡◌, ◌∙◌, sym, subst, refl, ℕ, ◌<◌, ◌≤◌, true, false, inl, inr, List, [], ◌∷◌, ◌++◌, length, arith}
+use Rattle.std.proofs.Common.{◌≡◌, ◌∙◌, sym, subst, refl, ℕ, ◌<◌, ◌≤◌, true, false, inl, inr, List, ◌∷◌, ◌++◌, length, arith}
 use Rattle.std.proofs.lemmas.Bool.{cases_Bool, not-true}
 use Rattle.std.proofs.lemmas.List.Sums.{AllPass-from_list_all}
-use Rattle.std.proofs.lemmas.List.{append_assoc}
 use Rattle.session_rules.specs.declared.call.Entry.{Entry}
 use Rattle.session_rules.specs.declared.state.CircuitState.{CircuitState}
 use Rattle.session_rules.specs.declared.state.CircuitState.TheVariants.{Refused, Idle, Taken, Evaluated, Answered}
 use Rattle.session_rules.specs.declared.fixed.Fixed.{Fixed}
 use Rattle.session_rules.specs.States.{State, circuit, plan, is_admitted, is_given, is_refused}
 use Rattle.session_rules.specs.Histories.{IsLegal, state_after}
-use Rattle.session_rules.specs.Completions.{IsCompletion, HasFull}
 use Rattle.session_rules.specs.Courses.{IsSerial, is_over, is_settled}
 use Rattle.session_rules.proofs.Keeps.{state_kept}
 use Rattle.session_rules.proofs.Runs.{beginnings_are_legal}
-use Rattle.session_rules.proofs.Completions.{completed_ones_stay_full, completions_answer, others_are_not_refused}
+use Rattle.session_rules.proofs.Deliveries.{completed_ones_have_all}
 use Rattle.run_laws.specs.Settling.{OwnersArePresent}
 use Rattle.run_laws.proofs.Taken.{serial_took_none}
 use Rattle.run_laws.proofs.Settling.{serial_ends, serial_answers_then}
@@ -21,9 +19,10 @@ use Rattle.session_script.specs.Asked.{Asked}
 use Rattle.session_script.specs.Kept.{IsAccepted}
 use Rattle.headline.specs.Asked.{rules_asked, state_of}
 use Rattle.headline.specs.Course.{serial}
-use Rattle.headline.specs.Headline.{CanAnswer, IsSettled, Headline}
+use Rattle.headline.specs.Headline.{IsCompleted, IsCompletion, CanAnswer, IsSettled, Headline}
 use Rattle.headline.specs.History.{are_free}
 use Rattle.headline.proofs.Setting.{whole, plans_number, threshold_is}
+use Rattle.headline.proofs.Refused.{others_are_not_refused}
 use Rattle.headline.proofs.Printed.{judged, aggregated, open_text, lines_told}
 use Rattle.headline.proofs.Values.{answers}
 use Rattle.headline.proofs.Open.{unready, waits}
@@ -34,9 +33,10 @@ front : (a : Asked) (es before after_ : List Entry) → IsLegal (rules_asked a) 
 front a es before after_ legal same = beginnings_are_legal (rules_asked a) before after_ (subst (λ (z : List Entry). IsLegal (rules_asked a) z) same legal)
 
 completed : (a : Asked) (es before middle after_ : List Entry) (e : Entry) (id : ℕ) → IsLegal (rules_asked a) es → es ≡ before ++ e ∷ middle ++ after_ → IsCompletion e id
-    → HasFull (rules_asked a) (state_of a (before ++ e ∷ middle)) id
+    → IsCompleted a (state_of a (before ++ e ∷ middle)) id
 completed a es before middle after_ e id legal same x =
-    completed_ones_stay_full (rules_asked a) before middle e id (front a es (before ++ e ∷ middle) after_ legal same) x
+    let all = completed_ones_have_all (rules_asked a) before middle e id x.party x.rows (front a es (before ++ e ∷ middle) after_ legal same) x.call x.reply in
+    record { item = all.item; issued = all.issued; parties = all.parties; sent = all.sent; answered = all.answered }
 
 -- ---- the end
 
@@ -97,8 +97,6 @@ keeps a h free es legal c =
       aggregates = aggregated a es;
       completed = λ before middle after_ e id same x. completed a es before middle after_ e id legal same x;
       answers = answers a h free es;
-      answering = λ before after_ e id x i same done found its.
-          completions_answer f before e id x i (front a es (before ++ e ∷ []) after_ legal (same ∙ sym (append_assoc before (e ∷ []) after_))) done found its;
       open_ones = λ x l admitted open_. (
         open_text a (state_of a es) x (others_are_not_refused f es x ∙ not-true (is_refused (plan f x).opening) admitted) open_,
         waits f es x w none (let n = plans_number a in omega (arith, n)) admitted (λ who. (serial_took_none f a.present a.lanes es c who w legal).1 x) open_,

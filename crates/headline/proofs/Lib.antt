@@ -1,4 +1,5 @@
 pub mod Setting
+pub mod Refused
 pub mod Printed
 pub mod Values
 pub mod Open

@@ -17,8 +17,8 @@ use Rattle.session_rules.proofs.Contained.{any_true, contains_range, find_none}
 use Rattle.session_rules.proofs.Marks.{done_is}
 use Rattle.session_rules.proofs.Keeps.{state_kept}
 use Rattle.session_rules.proofs.Grounds.{state_grounds}
-use Rattle.session_rules.proofs.Completions.{others_are_not_refused}
 use Rattle.headline.specs.Headline.{Waits, input, key, decryption}
+use Rattle.headline.proofs.Refused.{others_are_not_refused}
 
 -- an input that isn't given, where not all are
 record Missing (row : List Bool) : Type 0 where

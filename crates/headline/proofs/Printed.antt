@@ -1,11 +1,7 @@
 -- What is printed of circuits that are refused, and of complete instances.
-use Rattle.std.proofs.Common.{◌≡◌, ◌∙◌, ap, refl, ℕ, ◌<◌, false, inl, inr, ◌⊎◌, List, [], ◌∷◌, length, map, Contains, Option, Some, None}
+use Rattle.std.proofs.Common.{◌≡◌, ◌∙◌, ap, refl, ℕ, ◌<◌, false, inl, inr, ◌⊎◌, List, [], length, Contains, Option, Some, None}
 use Rattle.std.specs.Prelude.{cond}
-use Rattle.std.specs.List.{range_with_len}
-use Rattle.share_spec.specs.Sets.{members}
-use Rattle.ring_laws.specs.Aggregate.{ring_total}
-use Rattle.proto_names.specs.Names.{rows_of}
-use Rattle.proto_names.specs.declared.signature.Signature.{Signature}
+use Rattle.proto_names.specs.declared.sets.PartySet.{PartySet}
 use Rattle.proto_names.specs.declared.instance.Instance.{Instance}
 use Rattle.proto_names.specs.declared.instance.Stage.TheVariants.{Complete}
 use Rattle.circuit_form.specs.declared.node.Node.{Node}
@@ -19,9 +15,9 @@ use Rattle.session_rules.specs.declared.fixed.Plan.{Plan}
 use Rattle.session_rules.specs.States.{State, circuit, plan, is_refused}
 use Rattle.session_rules.specs.Facts.{is_settled}
 use Rattle.session_rules.specs.Fixing.{plan_of, begins_as}
-use Rattle.session_rules.proofs.Completions.{refused_ones_stay, others_are_not_refused, complete_ones_are_full}
-use Rattle.session_spec.specs.Settings.{Setting, gadget_rows}
-use Rattle.session_spec.specs.Shares.{share_row, sum_row, sum_rows}
+use Rattle.session_rules.proofs.Keeps.{state_kept}
+use Rattle.session_rules.proofs.Deliveries.{complete_ones_have_all}
+use Rattle.session_spec.specs.Shares.{sum_rows}
 use Rattle.session_spec.specs.Outputs.{sums_of}
 use Rattle.event_lines.specs.Instances.{instance_line}
 use Rattle.session_script.specs.Asked.{Asked}
@@ -31,6 +27,7 @@ use Rattle.run_report.specs.Reports.{bounding, name_at, refused_line, open_line,
 use Rattle.headline.specs.Asked.{rules_asked, state_of, nodes_asked, plain, output, aggregate}
 use Rattle.headline.specs.Headline.{IsTold, Judged, IsAggregate}
 use Rattle.headline.proofs.Setting.{plan_is}
+use Rattle.headline.proofs.Refused.{stays_refused, others_are_not_refused}
 
 -- ---- circuits
 
@@ -103,7 +100,7 @@ judged_by a es c l (Some place) e =
     let p = bounding a in
     let nodes = nodes_asked a c in
     let opening = begins a c l ∙ ap (begins_as p nodes) e ∙ refused_opening p nodes place in
-    let now = refused_ones_stay (rules_asked a) es c (ap is_refused opening) ∙ opening in
+    let now = stays_refused (rules_asked a) es c place (place_bound p nodes place) (limit p) opening in
     text_of a (state_of a es) c (Refused place (place_bound p nodes place) (limit p)) now ∙ refused_text (name_at a c) (plain a c) place (place_bound p nodes place) (limit p)
 
 pub judged : (a : Asked) (es : List Entry) (c : ℕ) → c < length a.circuits → Judged a (state_of a es) c (first_over (bounding a) (nodes_asked a c))
@@ -111,27 +108,14 @@ judged a es c l = judged_by a es c l (first_over (bounding a) (nodes_asked a c))
 
 -- ---- instances
 
--- sums over sets with the same members are the same
-map_same : {X Y : Type 0} (f g : X → Y) → ((x : X) → f x ≡ g x) → (xs : List X) → map f xs ≡ map g xs
-map_same f g h [] = refl
-map_same f g h (x ∷ xs) = rw (h x, map_same f g h xs) refl
-
-row_same : (w : Setting) (seeds : List (List ℕ)) (σ : Signature) (id set : ℕ) (polys : List (List ℕ)) (sent other r : ℕ) → members sent ≡ members other
-    → sum_row w seeds σ id set polys sent r ≡ sum_row w seeds σ id set polys other r
-unfolding sum_row
-row_same w seeds σ id set polys sent other r e = ap (λ (z : List ℕ). ring_total w.numbers.q w.numbers.n (map (share_row w seeds σ id set polys r) z)) e
-
-pub rows_same : (w : Setting) (seeds : List (List ℕ)) (σ : Signature) (id set : ℕ) (polys : List (List ℕ)) (sent other : ℕ) → members sent ≡ members other
-    → sum_rows w seeds σ id set polys sent ≡ sum_rows w seeds σ id set polys other
-unfolding sum_rows
-rows_same w seeds σ id set polys sent other e =
-    map_same (sum_row w seeds σ id set polys sent) (sum_row w seeds σ id set polys other) (λ r. row_same w seeds σ id set polys sent other r e) (range_with_len 0 (rows_of σ (gadget_rows w)))
-
-text_same : (a : Asked) (s : State) (i : Instance) → members i.sent.bits ≡ members i.set.bits → instance_text a s i ≡ instance_line i (polys_digest (aggregate a s i))
+text_same : (a : Asked) (s : State) (i : Instance) → i.sent ≡ i.set → instance_text a s i ≡ instance_line i (polys_digest (aggregate a s i))
 unfolding instance_text aggregate sums_of
-text_same a s i e = ap (λ (z : List (List ℕ)). instance_line i (polys_digest z)) (rows_same _ _ _ _ _ _ i.sent.bits i.set.bits e)
+text_same a s i e = ap (λ (z : List (List ℕ)). instance_line i (polys_digest z)) (ap (sum_rows _ _ _ _ _ _) (ap (λ (z : PartySet). z.bits) e))
 
 pub aggregated : (a : Asked) (es : List Entry) (i : Instance) → Contains (state_of a es).instances i → i.stage ≡ Complete → IsAggregate a (state_of a es) i
 aggregated a es i m e =
-    let full = complete_ones_are_full (rules_asked a) es i m e in
-    record { parties = full.parties; sent = full.sent; printed = text_same a (state_of a es) i full.sent }
+    let f = rules_asked a in
+    let s = state_of a es in
+    let k = state_kept f es in
+    let all = complete_ones_have_all f s i k m e in
+    record { parties = (k.sound i m).parties; sent = all; printed = text_same a s i all }

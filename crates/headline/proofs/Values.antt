@@ -15,7 +15,7 @@ use Rattle.session_rules.specs.Facts.{Kept}
 use Rattle.session_rules.specs.Completions.{HasDecryption}
 use Rattle.session_rules.proofs.Keeps.{state_kept}
 use Rattle.session_rules.proofs.Grounds.{state_grounds}
-use Rattle.session_rules.proofs.Completions.{answered_ones_are_decrypted, complete_ones_are_full, others_are_not_refused}
+use Rattle.session_rules.proofs.Completions.{answered_ones_are_decrypted}
 use Rattle.session_spec.specs.Settings.{Setting, rules}
 use Rattle.session_spec.specs.Shares.{sum_rows}
 use Rattle.session_spec.specs.Outputs.{key_in, output_of, polys_of}
@@ -30,6 +30,7 @@ use Rattle.headline.specs.Asked.{rules_asked, state_of, plain, public_key, aggre
 use Rattle.headline.specs.Headline.{IsAnswer}
 use Rattle.headline.specs.History.{are_free}
 use Rattle.headline.proofs.Setting.{params_of, setting_is, has_values, seeds_number, whole, plans_number, within_offers, threshold_is}
+use Rattle.headline.proofs.Refused.{others_are_not_refused}
 use Rattle.headline.proofs.Printed.{answered_text, output_told}
 
 -- the public key of a state serves a circuit that is begun
@@ -66,8 +67,7 @@ opened a h free es c l e d =
     let f = rules_asked a in
     let k = state_kept f es in
     let g = (state_grounds f es (whole a)).1 in
-    let full = complete_ones_are_full f es i d.issued d.complete in
-    let many : count i.set.bits ≡ p.threshold = full.parties ∙ threshold_is a in
+    let many : count i.set.bits ≡ p.threshold = (k.sound i d.issued).parties ∙ threshold_is a in
     let law = answers_are_plain outputs_carry p w seeds c i.id i.set.bits (public_key a s) (setting_is a h free) (has_values a h) (seeds_number a)
     (within_offers a c l) (admitted a es c e) many (serves w seeds s c k g e) in
     ap (λ (z : List (List ℕ)). decryption a.numbers.q a.numbers.t (ring_sum a.numbers.q a.numbers.n (output_of w seeds (public_key a s) c).c0 (slice_index_or z 0 [])))

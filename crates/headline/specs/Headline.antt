@@ -1,7 +1,7 @@
 -- The headline: what a report promises of the calls that it prints.
-use Rattle.std.specs.Prelude.{◌≡◌, ◌⊎◌, ℕ, ◌<◌, ◌≤◌, List, [], ◌∷◌, ◌++◌, length, true, false, Option, Some, None}
+use Rattle.std.specs.Prelude.{◌≡◌, ◌⊎◌, ℕ, ◌<◌, ◌≤◌, List, ◌∷◌, ◌++◌, length, true, false, Option, Some, None}
 use Rattle.std.specs.List.{slice_index_or, flat_map, Contains}
-use Rattle.share_spec.specs.Sets.{has, members, count}
+use Rattle.share_spec.specs.Sets.{has, count}
 use Rattle.proto_names.specs.Instances.{instance}
 use Rattle.proto_names.specs.declared.signature.Signature.TheVariants.{Dec}
 use Rattle.proto_names.specs.declared.instance.Instance.{Instance}
@@ -9,7 +9,9 @@ use Rattle.proto_names.specs.declared.instance.Stage.TheVariants.{Complete}
 use Rattle.noise_ledger.specs.declared.over.Place.{Place}
 use Rattle.noise_ledger.specs.Bounds.{limit}
 use Rattle.noise_ledger.specs.Ledger.{first_over, place_bound}
+use Rattle.session_rules.specs.declared.call.Call.TheVariants as call
 use Rattle.session_rules.specs.declared.call.Entry.{Entry}
+use Rattle.session_rules.specs.declared.reply.Reply.TheVariants.{Completed}
 use Rattle.session_rules.specs.declared.fixed.Fixed.{Fixed}
 use Rattle.session_rules.specs.declared.state.CircuitState.TheVariants.{Evaluated, Answered}
 use Rattle.session_rules.specs.States.{State, plan, circuit, is_admitted, is_given, has_done}
@@ -17,7 +19,7 @@ use Rattle.session_rules.specs.Steps.{is_input, has_keys, ready}
 use Rattle.session_rules.specs.Histories.{IsLegal}
 use Rattle.session_rules.specs.Facts.{Numbered}
 use Rattle.session_rules.specs.Grounds.{NoneOpened}
-use Rattle.session_rules.specs.Completions.{IsCompletion, HasFull, HasDecryption}
+use Rattle.session_rules.specs.Completions.{HasDecryption}
 use Rattle.session_script.specs.Asked.{Asked}
 use Rattle.event_lines.specs.Instances.{instance_line}
 use Rattle.event_lines.specs.Events.{event_line}
@@ -49,8 +51,24 @@ Judged a s c (Some place) =
 -- is printed is that of the sum of one share of each
 pub record IsAggregate (a : Asked) (s : State) (i : Instance) : Type 0 where
   pub parties : count i.set.bits ≡ threshold_of a s i
-  pub sent : members i.sent.bits ≡ members i.set.bits
+  pub sent : i.sent ≡ i.set
   pub printed : instance_text a s i ≡ instance_line i (polys_digest (aggregate a s i))
+
+-- an instance whose last share was counted: as many parties as act together are its set, all of them have sent, and
+-- the circuit of a decryption is answered
+pub record IsCompleted (a : Asked) (s : State) (id : ℕ) : Type 0 where
+  pub item : Instance
+  pub issued : instance s.instances id ≡ Some item
+  pub parties : count item.set.bits ≡ threshold_of a s item
+  pub sent : item.sent ≡ item.set
+  pub answered : (c : ℕ) → item.signature ≡ Dec c → circuit s.circuits c ≡ Answered
+
+-- the entry of a share that was the last one of instance id
+pub record IsCompletion (e : Entry) (id : ℕ) : Type 0 where
+  pub party : ℕ
+  pub rows : ℕ
+  pub call : e.call ≡ call.Deliver id party rows
+  pub reply : e.reply ≡ Completed
 
 -- ---- answers
 
@@ -75,7 +93,7 @@ pub data Waits (f : Fixed) (s : State) (c : ℕ) : Type 0 where
 
 -- ---- the end
 
--- at least T parties are present, and among them is the owner of each input that isn't given
+-- at least T parties are present, and among them is the owner of each input of an admitted circuit that isn't given
 pub record CanAnswer (f : Fixed) (s : State) : Type 0 where
   pub enough : f.threshold ≤ count s.present
   pub owners : (c k : ℕ) → is_input f c k ≡ true → is_given s c k ≡ false → has s.present (slice_index_or (plan f c).owners k 0) ≡ true
@@ -97,24 +115,24 @@ pub record Headline (a : Asked) (course : Course) (es : List Entry) : Type 0 whe
   -- each caller's calls stand in the order of the script. In the serial course caller 0 alone has those present join,
   -- makes the calls of each lane, and then settles in at most six rounds
   pub course_kept : Keeps course a es
-  -- a circuit is refused exactly where the noise ledger doesn't admit it
+  -- the line of a circuit says refused, with its first place above the limit, exactly where the noise ledger doesn't
+  -- admit it
   pub refused : (c : ℕ) → c < length a.circuits → Judged a (state_of a es) c (first_over (bounding a) (nodes_asked a c))
-  -- no two instances have the same number, so no two draw from the same stream
+  -- instances are numbered from 1 on, so no two have the same number
   pub numbered : Numbered (state_of a es).instances
   -- every aggregate that is reported complete is, by its digest, the sum of one honest share of each of its T parties
   pub aggregates : (i : Instance) → Contains (state_of a es).instances i → i.stage ≡ Complete → IsAggregate a (state_of a es) i
-  -- from each entry `completed` on all T parties of the instance have sent, also where it is void then or later
+  -- from each entry `completed` on, all T parties of the instance have sent, also where it is void then or later; and
+  -- where it is a decryption, its circuit is answered, from that very entry on
   pub completed : (before middle after : List Entry) (e : Entry) (id : ℕ) → es ≡ before ++ e ∷ middle ++ after → IsCompletion e id
-      → HasFull (rules_asked a) (state_of a (before ++ e ∷ middle)) id
-  -- every circuit that is answered prints its plain value modulo t, and that is what its output and each complete
-  -- decryption of it decrypt to
+      → IsCompleted a (state_of a (before ++ e ∷ middle)) id
+  -- every circuit that is answered prints its plain value modulo t and its output's digest, has a complete decryption,
+  -- and that value is what its output and each complete decryption of it decrypt to
   pub answers : (c : ℕ) → c < length a.circuits → circuit (state_of a es).circuits c ≡ Answered → IsAnswer a (state_of a es) c
-  -- a decryption that is completed answers its circuit at that very entry
-  pub answering : (before after : List Entry) (e : Entry) (id c : ℕ) (i : Instance) → es ≡ before ++ e ∷ after → IsCompletion e id
-      → instance (state_of a (before ++ e ∷ [])).instances id ≡ Some i → i.signature ≡ Dec c → circuit (state_of a (before ++ e ∷ [])).circuits c ≡ Answered
-  -- an admitted circuit that isn't answered prints that it is open, and an input, a key or its decryption is missing
+  -- an admitted circuit that isn't answered prints that it is open, and an input or a key is missing, or it is
+  -- evaluated and its decryption is missing
   pub open_ones : (c : ℕ) → c < length a.circuits → is_admitted (plan (rules_asked a) c) ≡ true → (circuit (state_of a es).circuits c ≡ Answered → ⊥)
       → (circuit_text a (state_of a es) c ≡ open_line (name_at a c)) × Waits (rules_asked a) (state_of a es) c
   -- at the end no instance is opened and no circuit is ready; and where at least T parties are present, and the owners
-  -- of the inputs that aren't given, every admitted circuit is answered
+  -- of the inputs of admitted circuits that aren't given, every admitted circuit is answered
   pub settled : IsSettled (rules_asked a) (length a.circuits) (state_of a es)

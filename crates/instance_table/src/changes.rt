@@ -6,10 +6,10 @@ ghost use Rattle.instance_table.specs.Spare.{spare};
 
 use crate::readers::place_of;
 use crate::rows::add_rows;
-use crate::steps::{after_loss, fresh, given_up, missing, outcome, with_share};
+use crate::share::outcome;
 use crate::{Brief, Count, Share, Table};
 use mod_ring::{Polys, Ring};
-use proto_names::{Instance, Signature};
+use proto_names::{Instance, Signature, after_loss, fresh, given_up, missing, with_share};
 use std::alloc::AllocError;
 use std::sync::Arc;
 

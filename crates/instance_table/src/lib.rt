@@ -13,7 +13,6 @@ mod changes;
 mod readers;
 mod rows;
 mod share;
-mod steps;
 mod table;
 
 pub use brief::Brief;

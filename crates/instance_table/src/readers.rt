@@ -1,14 +1,13 @@
 ghost use Rattle.std.specs.Prelude.{◌≡◌, ◌≤◌, ◌-◌, ◌↔◌, ℕ, length, All, Some, IfOk, IfSome, IsSome, IsTrue, option_copied, option_map};
 ghost use Rattle.ring_spec.specs.Ring.{IsPoly};
 ghost use Rattle.proto_names.specs.Names.{is_void};
-ghost use Rattle.proto_names.specs.Instances.{instance, lacks, owed_shares, after_share};
+ghost use Rattle.proto_names.specs.Instances.{instance, owed_shares, after_share};
 ghost use Rattle.instance_table.specs.Tables.{role, role_told, row_count, row_counts, stands, told};
 
-use crate::steps::counted_at;
 use crate::{Brief, Table};
 use mod_ring::Polys;
 use param_set::Ids;
-use proto_names::{Instance, Stage};
+use proto_names::{Instance, Stage, counted_at, lacks};
 use std::alloc::{AllocError, Global};
 use std::sync::Arc;
 
@@ -18,14 +17,6 @@ fn is_void(instance: &Instance) -> bool
     ensures { result ≡ is_void instance.now.stage }
 {
     matches!(instance.stage, Stage::Void { .. })
-}
-
-/// Whether an instance is opened and lacks the share of party p, who takes part.
-#[tactic(auto, unfolding(proto_names::specs::Instances::lacks))]
-pub(crate) fn lacks(p: u32, instance: &Instance) -> bool
-    ensures { result ≡ lacks p instance.now }
-{
-    matches!(instance.stage, Stage::Opened) && instance.set.has(p) && !instance.sent.has(p)
 }
 
 /// The numbers of the instances that lack the share of party p, in the order of the list.
@@ -89,16 +80,11 @@ impl Table {
     }
 
     /// The instance with a number, if that many were issued.
-    #[tactic(auto, unfolding(proto_names::specs::Instances::instance))]
     pub fn find(&self, id: u32) -> Option<&Instance>
         ensures value { option_copied result ≡ instance self.now.instances.items id }
         ensures issued { IsSome result ↔ ((1 ≤ id) × (id ≤ length self.now.instances.items)) }
     {
-        if id == 0 {
-            None
-        } else {
-            self.instances.get(place_of(id))
-        }
+        proto_names::find(self.instances.as_slice(), id)
     }
 
     /// Whether an instance was issued and isn't void.

@@ -1,3 +1,6 @@
+ghost use Rattle.std.specs.Prelude.{◌≡◌};
+ghost use Rattle.instance_table.specs.Tables.{outcome};
+
 use mod_ring::Polys;
 
 /// What a party gives for an instance.
@@ -17,4 +20,16 @@ pub enum Count {
     Counted { missing: u32 },
     /// It was the last share.
     Completed,
+}
+
+/// What the count of a share tells that leaves so many missing.
+#[tactic(auto, unfolding(crate::specs::Tables::outcome))]
+pub(crate) fn outcome(missing: u32) -> Count
+    ensures { result ≡ outcome missing }
+{
+    if missing == 0 {
+        Count::Completed
+    } else {
+        Count::Counted { missing }
+    }
 }

@@ -29,7 +29,7 @@ use Rattle.session_rules.specs.declared.reply.Reply.{Reply}
 use Rattle.session_rules.specs.declared.reply.Reply.TheVariants as reply
 use Rattle.session_rules.specs.declared.fixed.Fixed.{Fixed}
 use Rattle.session_rules.specs.States.{State, plan, no_plan, is_admitted}
-use Rattle.session_rules.specs.Steps.{step, brief, told, is_input}
+use Rattle.session_rules.specs.Steps.{judge, step, brief, told, is_input}
 use Rattle.session_rules.specs.declared.fixed.Plan.{Plan}
 use Rattle.session_rules.specs.Fixing.{plan_of}
 use Rattle.session_rules.specs.Tasks.{briefed}
@@ -38,7 +38,7 @@ use Rattle.session_rules.specs.declared.call.Entry.{Entry}
 use Rattle.session_rules.specs.Histories.{state_after}
 use Rattle.session_rules.proofs.Keeps.{histories_keep}
 use Rattle.session_laws.proofs.Plans.{rules_plans, rules_number}
-use Rattle.session_rules.proofs.Marks.{instance_number}
+use Rattle.session_rules.proofs.Marks.{instance_id}
 use Rattle.session_spec.specs.Settings.{Setting, nodes_of, no_offer, nodes_at, value_at, owner_at, seed_at}
 use Rattle.session_spec.specs.Shares.{share_rows}
 use Rattle.session_spec.specs.Outputs.{key_in, polys_of, share_of, input_of, inputs_of, output_of}
@@ -88,7 +88,7 @@ silent_by s id None e never = refl
 silent_by s id (Some i) e never = void_or_not i i.stage refl (never i e)
 
 pub silent : (f : Fixed) (s : State) (id : ℕ) → ((i : Instance) → instance s.instances id ≡ Some i → IsLive i → ⊥) → briefed (step f s 0 (call.Brief id)).0 ≡ None
-unfolding step brief
+unfolding step judge brief
 silent f s id never = silent_by s id (instance s.instances id) refl never
 
 -- a share that an honest party makes by its brief is the honest one of the instance
@@ -101,13 +101,13 @@ share_made w seeds key params h i b p rows t polys made =
 -- the brief of an instance has its number
 pub brief_number : (f : Fixed) (log : List Entry) (id : ℕ) (s : State) (params : Params) (h : Store) (b : Brief) (r : Reply) → s ≡ state_after f log
     → r ≡ (step f (state_after f log) 0 (call.Brief id)).0 → r ≡ brief_reply b → ((i : Instance) → instance s.instances id ≡ Some i → IsBriefOf params h i b) → b.id ≡ id
-unfolding step
+unfolding step judge
 brief_number f log id s params h b r same e goes its =
     let t = state_after f log in
     let x = is_told t id b.signature b.set (sym e ∙ goes) in
     let found : instance s.instances id ≡ Some x.item = subst (λ (z : State). instance z.instances id ≡ Some x.item) (sym same) x.found in
     let k : Kept f t = histories_keep f log in
-    (its x.item found).id ∙ instance_number t.instances id x.item k.numbered x.found
+    (its x.item found).id ∙ instance_id t.instances id x.item k.numbered x.found
 
 -- what a pointer that is there points at
 pub at_arc : (P : Brief → Type 0) (o : Option (Arc Brief Global)) (x : Arc Brief Global) (b : Brief) → o ≡ Some x → b ≡ x.value → IfSome o (λ z. P z.value) → P b

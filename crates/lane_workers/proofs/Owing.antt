@@ -16,7 +16,7 @@ use Rattle.session_rules.specs.declared.call.Entry.{Entry}
 use Rattle.session_rules.specs.declared.reply.Reply.TheVariants as reply
 use Rattle.session_rules.specs.declared.fixed.Fixed.{Fixed}
 use Rattle.session_rules.specs.States.{State, opening, plan, is_admitted, is_given, has_done}
-use Rattle.session_rules.specs.Steps.{step, pending, place, is_input, lacks_input, owed_of, owed_inputs}
+use Rattle.session_rules.specs.Steps.{judge, step, pending, place, is_input, lacks_input, owed_of, owed_inputs}
 use Rattle.session_rules.specs.Histories.{after, state_after}
 use Rattle.session_rules.proofs.Contained.{contains_filter_from, range_within, none_from_find}
 use Rattle.session_rules.proofs.Deliveries.{keys_stay}
@@ -130,5 +130,5 @@ listed_then f s p true ids places e = cc
 listed_then f s p false ids places e = cc
 
 pub listed_inputs : (f : Fixed) (s : State) (who p : ℕ) (ids : List ℕ) (places : List (ℕ × ℕ)) → (step f s who (call.Pending p)).0 ≡ reply.List ids places → places ≡ owed_inputs f s p
-unfolding step pending
+unfolding step judge pending
 listed_inputs f s who p ids places e = listed_then f s p (has s.present p) ids places e

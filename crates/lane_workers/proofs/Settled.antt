@@ -17,7 +17,7 @@ use Rattle.run_laws.specs.Settling.{SettlesAlone}
 use Rattle.run_laws.proofs.Leaving.{follows_all}
 use Rattle.run_laws.proofs.MoreRounds.{SoFar, one_round, all_rounds, enough_rounds, few_rounds}
 use Rattle.run_laws.proofs.Settling.{settling_ends, settling_answers}
-use Rattle.session_laws.proofs.Joins.{rules_whole}
+use Rattle.session_laws.proofs.Beginnings.{rules_whole}
 use Rattle.session_laws.proofs.Plans.{rules_threshold}
 use Rattle.session_spec.specs.Settings.{rules}
 use Rattle.session_core.specs.declared.session.Session.{Session}

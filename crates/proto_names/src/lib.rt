@@ -10,9 +10,11 @@
 mod instance;
 mod sets;
 mod signature;
+mod steps;
 mod streams;
 
 pub use instance::{Instance, Stage};
 pub use sets::PartySet;
 pub use signature::{Signature, rows_of};
+pub use steps::{after_loss, counted_at, find, fresh, given_up, lacks, missing, with_share};
 pub use streams::{input_stream, instance_stream};

@@ -1,5 +1,5 @@
 -- What a session of circuits asks for at most.
-use Rattle.std.proofs.Common.{◌≡◌, ◌+◌, ◌*◌, ◌≤◌, Bool, true, false, cond, List, [], ◌∷◌, ◌++◌, length, map, sum_by, arith}
+use Rattle.std.proofs.Common.{◌+◌, ◌≤◌, Bool, true, false, cond, List, [], ◌∷◌, ◌++◌, length, map, sum_by, arith}
 use Rattle.std.specs.List.{range_with_len, list_any}
 use Rattle.std.proofs.lemmas.List.{length-append, length-map}
 use Rattle.std.proofs.lemmas.List.Sums.{sum_by-cons}
@@ -10,8 +10,8 @@ use Rattle.circuit_form.specs.Circuits.{owners}
 use Rattle.noise_ledger.specs.Bounds.{Numbers}
 use Rattle.session_rules.specs.declared.fixed.Fixed.{Fixed}
 use Rattle.session_rules.specs.Issues.{keys as needed_keys, wants_key, wants_relin}
-use Rattle.session_rules.specs.Fixing.{plan_of, is_turned, fixed_from, fixed_of}
-use Rattle.session_rules.proofs.Weights.{passing_all, range_length}
+use Rattle.session_rules.specs.Fixing.{plan_of, fixed_from}
+use Rattle.session_rules.proofs.Weights.{range_length}
 use Rattle.run_laws.specs.Lengths.{signatures, input_count, inputs, node_count, FewAreSigned, FewAreInputs}
 
 -- ---- signatures
@@ -26,22 +26,11 @@ few_keys f = at (list_any wants_key f.plans) (list_any wants_relin f.plans)
     at false true = omega (arith, length-map f.turns Rot)
     at false false = omega (arith, length-map f.turns Rot)
 
-pub all_signed : (f : Fixed) → length (signatures f) ≤ 3 + length f.turns + length f.plans
+pub few_are_signed : FewAreSigned
 unfolding signatures
-all_signed f =
+few_are_signed f =
     let range = range_with_len 0 (length f.plans) in
     omega (arith, few_keys f, length-append (needed_keys f) (map Dec range), length-map range Dec, range_length 0 (length f.plans))
-
-few_turns : (p : Numbers) (circuits : List (List Node)) → length (fixed_of p circuits).turns ≤ 2 * p.n
-unfolding fixed_from
-few_turns p circuits = omega (arith, passing_all (is_turned (map (plan_of p) circuits)) (range_with_len 0 (2 * p.n)), range_length 0 (2 * p.n))
-
-pub many_plans : (p : Numbers) (circuits : List (List Node)) → length (fixed_of p circuits).plans ≡ length circuits
-unfolding fixed_from
-many_plans p circuits = length-map circuits (plan_of p)
-
-pub few_are_signed : FewAreSigned
-few_are_signed p circuits = omega (arith, all_signed (fixed_of p circuits), few_turns p circuits, many_plans p circuits)
 
 -- ---- inputs
 

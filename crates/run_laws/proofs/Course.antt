@@ -17,7 +17,7 @@ use Rattle.session_rules.specs.Courses.{to_do, joins, lane_tasks, Follows, is_se
 use Rattle.session_rules.proofs.Grounds.{KeptWell, after_grounds, opening_grounds}
 use Rattle.run_laws.specs.Alone.{Stops, in_lanes, in_rounds}
 use Rattle.run_laws.specs.Lengths.{most_sent, most_round, most_line, most_of, is_exhaust, line_count, lines, most_calls, CourseIsShort, CourseStopsShort, RunIsSerial, SerialRunIsLegal, SerialIsItsRun, IsSmall, SmallOnesAreShort}
-use Rattle.run_laws.proofs.Circuits.{all_signed}
+use Rattle.run_laws.proofs.Circuits.{few_are_signed}
 use Rattle.run_laws.proofs.Dropped.{left_stands, next_none}
 use Rattle.run_laws.proofs.Without.{serial_none}
 use Rattle.run_laws.proofs.Replies.{AreBy, own_all, all_own, by_first, by_second, by_both, Replied, replied_replayed, replayed_replied, replied_first, replied_second, replied_both}
@@ -194,7 +194,7 @@ serial_is_its_run most f present lanes es w l legal is =
 
 sent_small : (f : Fixed) (present : List ℕ) (lanes : List (List Line)) → IsSmall f present lanes → most_sent f ≤ 1191
 unfolding most_sent
-sent_small f present lanes is = let a = is.plans in let b = is.turns in let c = is.inputs in omega (arith, all_signed f)
+sent_small f present lanes is = let a = is.plans in let b = is.turns in let c = is.inputs in omega (arith, few_are_signed f)
 
 pub small_ones_are_short : SmallOnesAreShort
 unfolding most_calls most_round

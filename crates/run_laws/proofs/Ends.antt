@@ -1,9 +1,9 @@
 -- Where settling has come to an end no instance is opened, no circuit is ready, and where it can be each
 -- admitted circuit is answered.
 use Rattle.std.proofs.Common.{◌≡◌, ◌≢◌, ◌∙◌, sym, ap, subst, refl, ℕ, zero, suc, ◌<◌, ◌≤◌, Bool, true, false, cond, ◌⊎◌, inl, inr, List, [], ◌∷◌, ◌++◌, length, map, slice_index_or, Contains, None, arith}
-use Rattle.std.specs.Prelude.{nat_eq, nat_lt, ◌&&◌, ◌||◌, not}
+use Rattle.std.specs.Prelude.{nat_eq, nat_lt, nat_le, ◌||◌, not}
 use Rattle.std.specs.List.{list_any, list_all}
-use Rattle.std.proofs.lemmas.Bool.{cases_Bool, and_parts, and_from, not-true, not_from_false, ne_eqb, lt-ltb}
+use Rattle.std.proofs.lemmas.Bool.{le-leb, cases_Bool, and_parts, and_from, not-true, not_from_false, ne_eqb, lt-ltb}
 use Rattle.std.proofs.lemmas.List.{get_or_default}
 use Rattle.std.proofs.lemmas.List.Elements.{Contains-append_cases, Contains-append_left, Contains-append_right}
 use Rattle.share_spec.specs.Sets.{has, count}
@@ -16,19 +16,20 @@ use Rattle.session_rules.specs.declared.state.CircuitState.TheVariants.{Refused,
 use Rattle.session_rules.specs.declared.fixed.Plan.{Plan}
 use Rattle.session_rules.specs.declared.fixed.Fixed.{Fixed}
 use Rattle.session_rules.specs.States.{State, circuit, plan, no_plan, is_idle, is_refused, is_admitted, has_live, has_done}
-use Rattle.session_rules.specs.Issues.{keys as needed_keys, wants_key, wants_relin, condition, enough}
-use Rattle.session_rules.specs.Steps.{is_input, is_given_input, has_turn, has_keys, ready, next_ready}
+use Rattle.session_rules.specs.Issues.{keys as needed_keys, wants_key, wants_relin, condition}
+use Rattle.session_rules.specs.Steps.{is_input, has_turn, has_keys, ready, next_ready}
 use Rattle.session_rules.specs.Courses.{is_over, is_settled as is_settled_now}
 use Rattle.session_rules.specs.Facts.{is_begun, is_settled, Kept, IsAtRest}
 use Rattle.session_rules.specs.Grounds.{Grounded, IsWhole, NoneOpened, CanSettle}
 use Rattle.session_rules.proofs.Contained.{contains_nil, contains_cases, contains_here, contains_there, contains_map, contains_map_from, contains_range, any_true, any_from}
 use Rattle.session_rules.proofs.Grounds.{KeptWell}
-use Rattle.session_rules.proofs.Issued.{live_one, Done, done_one, done_here, condition_second, condition_other, enough_from, rest_owes}
+use Rattle.session_rules.proofs.Issued.{live_one, Done, done_one, done_here, condition_second, condition_other, rest_owes}
 use Rattle.session_rules.proofs.Marks.{complete_lives, opened_lives, one_number, live_cases}
 use Rattle.session_rules.proofs.MoveKinds.{IsNeeded, key, decryption}
+use Rattle.session_rules.proofs.Readiness.{all_at, all_each, ready_from, ready_idle, idle_within, none_is, none_from}
 use Rattle.session_rules.proofs.Within.{Within}
-use Rattle.run_laws.proofs.Calls.{owner, ready_idle}
-use Rattle.run_laws.proofs.Stages.{rank, Any, Stage, all_at, all_each, none_is, none_from, idle_within}
+use Rattle.run_laws.proofs.Calls.{owner}
+use Rattle.run_laws.proofs.Stages.{rank, Any, Stage}
 
 -- ---- which keys are needed
 
@@ -115,11 +116,8 @@ unfolding is_settled_now
 over_at s c e = over_all s.circuits c e
 
 over_begun : (now : CircuitState) → is_over now ≡ true → is_refused now ≡ false → is_begun now ≡ true
-over_begun (Refused place bound limit) o n = cc
-over_begun Idle o n = cc
-over_begun (Taken caller) o n = cc
-over_begun Evaluated o n = cc
 over_begun Answered o n = refl
+over_begun other o n = cc
 
 begun_in : (f : Fixed) (s : State) (c : ℕ) → Grounded f s → is_settled_now s ≡ true → is_admitted (plan f c) ≡ true → is_begun (circuit s.circuits c) ≡ true
 begun_in f s c g e admitted = over_begun (circuit s.circuits c) (over_at s c e) (g.refused c ∙ not-true (is_refused (plan f c).opening) admitted)
@@ -192,11 +190,8 @@ settled_unopened f s w g e i m opened = elim (g.1.asked i m) [
 ]
 
 over_idle : (now : CircuitState) → is_over now ≡ true → is_idle now ≡ true → ⊥
-over_idle (Refused place bound limit) o e = cc
 over_idle Idle o e = cc
-over_idle (Taken caller) o e = cc
-over_idle Evaluated o e = cc
-over_idle Answered o e = cc
+over_idle other o e = cc
 
 pub settled_unready : (f : Fixed) (s : State) → is_settled_now s ≡ true → next_ready f s ≡ None
 settled_unready f s e = none_from f s (λ c r. over_idle (circuit s.circuits c) (over_at s c e) (ready_idle f s c r))
@@ -214,7 +209,7 @@ stage_unopened f s g i m opened = let l = g.ranked i m opened in let few = rank_
     rank_few (Dec c) = omega arith
 
 -- what is needed, and may be issued, is complete
-needed_done : (f : Fixed) (s : State) (σ : Signature) → IsAtRest f s → NoneOpened s → IsNeeded f s.circuits σ → condition f s.present s.instances σ ≡ true → Done σ s.instances
+needed_done : (f : Fixed) (s : State) (σ : Signature) → IsAtRest f s → NoneOpened s → IsNeeded f s.circuits σ → condition f s σ ≡ true → Done σ s.instances
 needed_done f s σ rest unopened needed stands = elim (cases_Bool (has_live σ s.instances)) [
   | inr none ↦ absurd (rest_owes f s rest σ needed none stands)
   | inl lives_ ↦
@@ -231,10 +226,6 @@ has_it σ is d = done_here σ is d.item d.within d.done
 input_from : (f : Fixed) (c k : ℕ) → is_admitted (plan f c) ≡ true → k < length (plan f c).owners → is_input f c k ≡ true
 unfolding is_input
 input_from f c k a l = and_from (is_admitted (plan f c)) (nat_lt k (length (plan f c).owners)) a (lt-ltb k (length (plan f c).owners) l)
-
-ready_from : (f : Fixed) (s : State) (c : ℕ) → is_idle (circuit s.circuits c) ≡ true → list_all is_given_input (slice_index_or s.given c []) ≡ true → has_keys s (plan f c) ≡ true → ready f s c ≡ true
-unfolding ready
-ready_from f s c i g k = and_from (is_idle (circuit s.circuits c) && list_all is_given_input (slice_index_or s.given c [])) (has_keys s (plan f c)) (and_from (is_idle (circuit s.circuits c)) (list_all is_given_input (slice_index_or s.given c [])) i g) k
 
 keys_all : (s : State) (x : Plan) → (x.product ≡ true → has_done Rlk2 s.instances ≡ true) → ((g : ℕ) → Contains x.turns g → has_done (Rot g) s.instances ≡ true) → has_keys s x ≡ true
 unfolding has_keys
@@ -265,17 +256,17 @@ can_later f base s within can =
     }
 
 module _ (f : Fixed) (w : IsWhole f) (s : State) (g : Stage f 6 s) (can : CanSettle f s) where
-  many : enough f s.present ≡ true
-  many = enough_from f s.present can.enough
+  many : nat_le f.threshold (count s.present) ≡ true
+  many = le-leb f.threshold (count s.present) can.enough
 
   key_done : (σ : Signature) → σ ≢ Rlk2 → IsNeeded f s.circuits σ → has_done σ s.instances ≡ true
-  key_done σ n needed = has_it σ s.instances (needed_done f s σ g.rest (stage_unopened f s g) needed (condition_other f s.present s.instances σ n ∙ many))
+  key_done σ n needed = has_it σ s.instances (needed_done f s σ g.rest (stage_unopened f s g) needed (condition_other f s σ n ∙ many))
 
   relin_done : (c : ℕ) → c < length f.plans → wants_relin (plan f c) ≡ true → has_done Rlk2 s.instances ≡ true
   relin_done c l wants =
       let both = relin_needed f c l wants in
       let first = key_done Rlk1 (λ e. cc) (key both.0) in
-      has_it Rlk2 s.instances (needed_done f s Rlk2 g.rest (stage_unopened f s g) (key both.1) (condition_second f s.present s.instances Rlk2 refl ∙ first))
+      has_it Rlk2 s.instances (needed_done f s Rlk2 g.rest (stage_unopened f s g) (key both.1) (condition_second f s Rlk2 refl ∙ first))
 
   -- an idle circuit would be ready
   idle_ready : (c : ℕ) → is_idle (circuit s.circuits c) ≡ true → is_refused (circuit s.circuits c) ≡ false → ready f s c ≡ true
@@ -283,23 +274,25 @@ module _ (f : Fixed) (w : IsWhole f) (s : State) (g : Stage f 6 s) (can : CanSet
       let l = idle_within f s c g.well.0 idle in
       let admitted : is_admitted (plan f c) ≡ true = not_from_false (is_refused (plan f c).opening) (sym (g.well.1.refused c) ∙ free) in
       let long = g.well.1.rows c in
-      ready_from f s c idle
-      (all_each (slice_index_or s.given c []) (λ k below.
-      let its = input_from f c k admitted (omega arith) in
-      let wants : wants_key (plan f c) ≡ true = and_from (is_admitted (plan f c)) (not (nat_eq (length (plan f c).owners) 0)) admitted (not_from_false (nat_eq (length (plan f c).owners) 0) (ne_eqb (length (plan f c).owners) 0 (λ z. absurd (omega arith)))) in
-      let pk = key_done Pk (λ e. cc) (key (key_needed f c l wants)) in
-      elim (can.owners c k its) [
-        | inl before ↦ before
-        | inr there ↦ g.owed (omega arith) pk c k its there
-      ]))
-      (keys_all s (plan f c)
-      (λ product. relin_done c l (and_from (is_admitted (plan f c)) (plan f c).product admitted product))
-      (λ x m. key_done (Rot x) (λ e. cc) (key (turn_needed f x (w.turns c x l admitted m)))))
+      ready_from f s c (record {
+        idle = idle;
+        given = all_each (slice_index_or s.given c []) (λ k below.
+            let its = input_from f c k admitted (omega arith) in
+            let wants : wants_key (plan f c) ≡ true = and_from (is_admitted (plan f c)) (not (nat_eq (length (plan f c).owners) 0)) admitted (not_from_false (nat_eq (length (plan f c).owners) 0) (ne_eqb (length (plan f c).owners) 0 (λ z. absurd (omega arith)))) in
+            let pk = key_done Pk (λ e. cc) (key (key_needed f c l wants)) in
+            elim (can.owners c k its) [
+              | inl before ↦ before
+              | inr there ↦ g.owed (omega arith) pk c k its there
+            ]);
+        keys = keys_all s (plan f c)
+            (λ product. relin_done c l (and_from (is_admitted (plan f c)) (plan f c).product admitted product))
+            (λ x m. key_done (Rot x) (λ e. cc) (key (turn_needed f x (w.turns c x l admitted m))));
+      })
 
   unevaluated : (c : ℕ) → c < length s.circuits → circuit s.circuits c ≡ Evaluated → ⊥
   unevaluated c l e =
       let d = needed_done f s (Dec c) g.rest (stage_unopened f s g) (decryption c refl (contains_range 0 (length s.circuits) c (omega arith) (omega arith)) e)
-      (condition_other f s.present s.instances (Dec c) (λ h. cc) ∙ many) in
+      (condition_other f s (Dec c) (λ h. cc) ∙ many) in
       let answered = (g.well.0.decrypts d.item d.within).complete c d.done.signature d.done.complete in
       let both : Evaluated ≡ Answered = sym e ∙ answered in cc
 

@@ -1,18 +1,17 @@
 -- Each circuit that is evaluated leaves fewer that are idle, and where none is, none is taken.
-use Rattle.std.proofs.Common.{◌≡◌, ◌∙◌, sym, ap, subst, refl, ℕ, ◌+◌, ◌*◌, ◌<◌, ◌≤◌, Bool, true, false, cond, inl, inr, List, length, get_or, set, Option, Some, None, arith, length-set}
+use Rattle.std.proofs.Common.{◌≡◌, ◌∙◌, sym, ap, subst, refl, ℕ, ◌+◌, ◌<◌, ◌≤◌, Bool, true, false, cond, inl, inr, List, length, get_or, set, Some, None, arith, length-set}
 use Rattle.std.specs.Prelude.{sum_by}
-use Rattle.std.specs.List.{list_all, slice_index_or}
 use Rattle.std.proofs.lemmas.Bool.{and_parts, cases_lt}
-use Rattle.std.proofs.lemmas.List.{get_or-set_same, get_or_past}
+use Rattle.std.proofs.lemmas.List.{get_or_past}
 use Rattle.std.proofs.lemmas.List.Sums.{sum_by-set, sum_by-le}
 use Rattle.session_rules.specs.declared.call.Call.TheVariants as call
-use Rattle.session_rules.specs.declared.reply.Reply.{Reply}
 use Rattle.session_rules.specs.declared.state.CircuitState.{CircuitState}
 use Rattle.session_rules.specs.declared.state.CircuitState.TheVariants.{Taken, Evaluated, Answered}
 use Rattle.session_rules.specs.declared.fixed.Fixed.{Fixed}
-use Rattle.session_rules.specs.States.{State, circuit, plan, is_idle}
+use Rattle.session_rules.specs.States.{State, circuit, is_idle}
 use Rattle.session_rules.specs.Issues.{issue}
-use Rattle.session_rules.specs.Steps.{ready, is_given_input, has_keys, step, with_circuit}
+use Rattle.session_rules.proofs.Stepwise.{issue_beside}
+use Rattle.session_rules.specs.Steps.{ready, step}
 use Rattle.session_rules.specs.Tasks.{job}
 use Rattle.run_laws.proofs.Calls.{Takes, nothing, takes, takes_is, evaluated, finishes_it}
 use Rattle.run_laws.specs.Leaving.{one_if_idle, idle}
@@ -29,10 +28,6 @@ idle_there s c e = elim (cases_lt c (length s.circuits)) [
 
 one_idle : (c : CircuitState) → is_idle c ≡ true → one_if_idle c ≡ 1
 one_idle c e = rw e refl
-
-issue_circuits : (f : Fixed) (s : State) → (issue f s).circuits ≡ s.circuits
-unfolding issue
-issue_circuits f s = refl
 
 -- a circuit that is idle is taken, and finished
 evaluated_idle : (s : State) (c : ℕ) → is_idle (circuit s.circuits c) ≡ true → idle (evaluated 0 s c) + 1 ≤ idle s
@@ -53,7 +48,7 @@ taken_then f s t u c (takes d h l j same) e taken finished =
     let is_one = ready_idle f s d h in
     let after_ : u ≡ issue f (evaluated 0 s d) = finished ∙ ap (λ (z : ℕ). (step f t 0 (call.Finish z)).1) (sym it) ∙ ap (λ (z : State). (step f z 0 (call.Finish d)).1) (taken ∙ same)
     ∙ finishes_it f 0 s d (idle_there s d is_one) in
-    subst (λ (z : List CircuitState). sum_by one_if_idle z + 1 ≤ idle s) (sym (ap (λ (z : State). z.circuits) after_ ∙ issue_circuits f (evaluated 0 s d))) (evaluated_idle s d is_one)
+    subst (λ (z : List CircuitState). sum_by one_if_idle z + 1 ≤ idle s) (sym (ap (λ (z : State). z.circuits) after_ ∙ (issue_beside f (evaluated 0 s d)).circuits)) (evaluated_idle s d is_one)
 
 pub fewer_idle : (f : Fixed) (s t u : State) (c : ℕ) → job (step f s 0 call.Take).0 ≡ Some c → t ≡ (step f s 0 call.Take).1 → u ≡ (step f t 0 (call.Finish c)).1 → idle u + 1 ≤ idle s
 fewer_idle f s t u c e taken finished = taken_then f s t u c (takes_is f 0 s) e taken finished

@@ -17,7 +17,7 @@ use Rattle.session_rules.specs.declared.state.CircuitState.TheVariants.{Evaluate
 use Rattle.session_rules.specs.declared.fixed.Fixed.{Fixed}
 use Rattle.session_rules.specs.States.{State, circuit, plan, no_plan, is_admitted, has_done}
 use Rattle.session_rules.specs.Issues.{keys as needed_keys}
-use Rattle.session_rules.specs.Steps.{lacks_input, place, owed_of, owed_inputs, pending, step}
+use Rattle.session_rules.specs.Steps.{lacks_input, place, owed_of, owed_inputs, pending, judge, step}
 use Rattle.session_rules.specs.Tasks.{Lists, listed}
 use Rattle.session_rules.specs.Facts.{Kept}
 use Rattle.session_rules.specs.Grounds.{Grounded}
@@ -97,7 +97,7 @@ few_inputs f s p = at (has_done Pk s.instances)
 
 pub few_asked : (f : Fixed) (s : State) (who p : ℕ) (owed : Lists) → KeptWell f s → listed (step f s who (call.Pending p)).0 ≡ Some owed
     → (length owed.ids ≤ length (signatures f)) × (length owed.inputs ≤ inputs f)
-unfolding step pending
+unfolding step judge pending
 few_asked f s who p owed g e = at (has s.present p) e
   where
     at : (b : Bool) → listed (if b then reply.List (owed_shares p s.instances) (owed_inputs f s p) else reply.Absent) ≡ Some owed → (length owed.ids ≤ length (signatures f)) × (length owed.inputs ≤ inputs f)

@@ -1,48 +1,32 @@
 -- What lives after a round was there before, or is of a signature that may be issued; and no circuit is
 -- ready then.
-use Rattle.std.proofs.Common.{◌≡◌, ◌≢◌, ◌∙◌, sym, ap, subst, refl, ℕ, zero, suc, ◌<◌, Bool, true, false, ◌&&◌, ◌⊎◌, inl, inr, List, [], ◌∷◌, ◌++◌, length, get_or, set, map, slice_index_or, Contains, Option, Some, None, arith, length-set}
-use Rattle.std.specs.List.{range_with_len, list_all}
-use Rattle.std.proofs.lemmas.Bool.{cases_eq, cases_lt, and_parts, and_from, eq-eqb}
+use Rattle.std.proofs.Common.{◌≡◌, ◌≢◌, ◌∙◌, sym, ap, subst, refl, ℕ, zero, suc, ◌<◌, Bool, true, false, ◌⊎◌, inl, inr, List, [], ◌∷◌, ◌++◌, length, get_or, set, map, slice_index_or, Contains, Option, Some, None, arith, length-set}
+use Rattle.std.specs.List.{range_with_len}
+use Rattle.std.proofs.lemmas.Bool.{cases_eq, cases_lt}
 use Rattle.std.proofs.lemmas.List.{get_or-set_same, get_or-set_other, set_past}
 use Rattle.share_spec.specs.Sets.{has, members}
 use Rattle.proto_names.specs.declared.signature.Signature.{Signature}
-use Rattle.proto_names.specs.declared.signature.Signature.TheVariants.{Pk, Rlk2, Rot, Dec}
+use Rattle.proto_names.specs.declared.signature.Signature.TheVariants.{Pk, Dec}
 use Rattle.session_rules.specs.declared.call.Call.TheVariants as call
 use Rattle.session_rules.specs.declared.line.Line.TheVariants as line
 use Rattle.session_rules.specs.declared.state.CircuitState.TheVariants.{Taken, Evaluated, Answered}
 use Rattle.session_rules.specs.declared.fixed.Fixed.{Fixed}
-use Rattle.session_rules.specs.States.{State, circuit, plan, is_idle, has_done}
-use Rattle.session_rules.specs.Issues.{issue}
-use Rattle.session_rules.specs.Steps.{is_input, with_input, is_given_input, has_keys, ready, next_ready, with_circuit, step}
+use Rattle.session_rules.specs.States.{State, circuit, plan, has_done}
+use Rattle.session_rules.specs.Issues.{condition, enough, issue}
+use Rattle.session_rules.specs.declared.deed.Deed.TheVariants.{Gives}
+use Rattle.session_rules.specs.Deeds.{with_input, with_circuit, changed}
+use Rattle.session_rules.specs.Steps.{is_input, ready, next_ready, step}
 use Rattle.session_rules.specs.Tasks.{Task, does, shares, delivers, gives, exhausts, finishes, exhausting, job}
 use Rattle.session_rules.specs.Courses.{sends, round_tasks}
-use Rattle.session_rules.proofs.Changes.{gives as changes, turns}
-use Rattle.session_rules.proofs.Grounds.{keys_from}
 use Rattle.session_rules.proofs.Later.{later_transitive}
-use Rattle.session_rules.proofs.Keeps.{change_next}
+use Rattle.session_rules.proofs.Keeps.{give_next, turn_next, was_idle, was_taken}
+use Rattle.session_rules.proofs.Readiness.{ready_idle}
 use Rattle.session_rules.proofs.MoveKinds.{key, decryption}
 use Rattle.session_rules.proofs.Rest.{calls_leave_rest}
 use Rattle.session_rules.proofs.Issued.{Owes, rest_owes, rest_firm}
 use Rattle.session_rules.proofs.Within.{given_later, Reached, Within, Fits, fits_later, issue_within, count_reached, last_within}
 use Rattle.run_laws.proofs.Walks.{Settles, AllSettle, Leads, asks, leads_between, tasks_keep, all_map}
-use Rattle.run_laws.proofs.Calls.{counts, completes, owner, Sends, stays, gives_share, gives_input, Sending, sending_does, nothing, takes, takes_is, ready_idle, evaluated, finishes_it}
-
--- ---- what is ready
-
--- a circuit that is ready was ready before
-pub record WasReady (f : Fixed) (s t : State) (c : ℕ) : Type 0 where
-  pub idle : is_idle (circuit t.circuits c) ≡ true → is_idle (circuit s.circuits c) ≡ true
-  pub given : list_all is_given_input (slice_index_or t.given c []) ≡ true → list_all is_given_input (slice_index_or s.given c []) ≡ true
-  pub relin : has_done Rlk2 t.instances ≡ true → has_done Rlk2 s.instances ≡ true
-  pub turn : (g : ℕ) → has_done (Rot g) t.instances ≡ true → has_done (Rot g) s.instances ≡ true
-
-pub ready_before : (f : Fixed) (s t : State) (c : ℕ) → WasReady f s t c → ready f t c ≡ true → ready f s c ≡ true
-unfolding ready
-ready_before f s t c w e =
-    let both = and_parts (is_idle (circuit t.circuits c) && list_all is_given_input (slice_index_or t.given c [])) (has_keys t (plan f c)) e in
-    let two = and_parts (is_idle (circuit t.circuits c)) (list_all is_given_input (slice_index_or t.given c [])) both.0 in
-    and_from (is_idle (circuit s.circuits c) && list_all is_given_input (slice_index_or s.given c [])) (has_keys s (plan f c))
-    (and_from (is_idle (circuit s.circuits c)) (list_all is_given_input (slice_index_or s.given c [])) (w.idle two.0) (w.given two.1)) (keys_from t s (plan f c) w.relin w.turn both.1)
+use Rattle.run_laws.proofs.Calls.{counts, completes, owner, Sends, stays, gives_share, gives_input, Sending, sending_does, nothing, takes, takes_is, evaluated, finishes_it}
 
 -- ---- a circuit that is taken and finished
 
@@ -53,7 +37,7 @@ evaluated_other : (who : ℕ) (s : State) (c d : ℕ) → d ≢ c → circuit (e
 evaluated_other who s c d n = get_or-set_other (set s.circuits c (Taken who)) c d Evaluated Answered n ∙ get_or-set_other s.circuits c d (Taken who) Answered n
 
 -- one input more is given
-pub given_cases : (given : List (List Bool)) (c k d j : ℕ) → get_or (get_or (with_input given c k) d []) j false ≡ true → (get_or (get_or given d []) j false ≡ true) ⊎ ((d ≡ c) × (j ≡ k))
+given_cases : (given : List (List Bool)) (c k d j : ℕ) → get_or (get_or (with_input given c k) d []) j false ≡ true → (get_or (get_or given d []) j false ≡ true) ⊎ ((d ≡ c) × (j ≡ k))
 given_cases given c k d j e =
     let row = get_or given c [] in
     elim (cases_eq d c) [
@@ -91,11 +75,12 @@ module _ (X : Signature → Type 0) (f : Fixed) (base : State) (fits : Fits X ba
   abbrev Come : State → Type 0
   Come s = Reached X f base s
 
-  given_in : (s : State) (c k : ℕ) → In s → is_input f c k ≡ true → has_done Pk s.instances ≡ true → has s.present (owner f c k) ≡ true → Come (record s { given = with_input s.given c k })
+  given_in : (s : State) (c k : ℕ) → In s → is_input f c k ≡ true → has_done Pk s.instances ≡ true → has s.present (owner f c k) ≡ true → Come (changed (Gives c k) s)
+  unfolding changed
   given_in s c k w its done there =
       let r = w.reached in
-      let t : State = record s { given = with_input s.given c k } in
-      let next = change_next who f s t r.kept (changes c k done refl) in
+      let t = changed (Gives c k) s in
+      let next = give_next f s c k r.kept in
       record {
         kept = next.0;
         later = later_transitive base s t r.later next.1;
@@ -117,14 +102,12 @@ module _ (X : Signature → Type 0) (f : Fixed) (base : State) (fits : Fits X ba
 
   sends_come : (s t : State) → In s → Sends f s t → Come t
   sends_come s t w (stays e) = subst Come (sym e) w.reached
-  sends_come s t w (gives_share id p i found member alive unsent (counts e)) =
-      subst Come (sym e) (count_reached X f base s w (fits_later X f base s fits w.reached) id p i found member alive unsent)
-  sends_come s t w (gives_share id p i found member alive unsent (completes e)) =
-      subst Come (sym e) (last_within X f base s w (fits_later X f base s fits w.reached) id p i found member alive unsent).reached
+  sends_come s t w (gives_share i p its (counts e)) = subst Come (sym e) (count_reached X f base s w (fits_later X f base s fits w.reached) i p its)
+  sends_come s t w (gives_share i p its (completes e)) = subst Come (sym e) (last_within X f base s w (fits_later X f base s fits w.reached) i p its).reached
   sends_come s t w (gives_input c k its done there e) = subst Come (sym e) (given_in s c k w its done there)
 
   sending_in : (s : State) (x : Task) → Settles ⊥ x → In s → In (step f s who (asks x)).1
-  sending_in s x h w = record { reached = sends_come s (step f s who (asks x)).1 w (sending_does f s who (asks x) (asks_sending x h)); rest = calls_leave_rest f s who (asks x) w.reached.kept w.rest }
+  sending_in s x h w = record { reached = sends_come s (step f s who (asks x)).1 w (sending_does f s who (asks x) w.reached.kept (asks_sending x h)); rest = calls_leave_rest f s who (asks x) w.reached.kept w.rest }
     where
       asks_sending : (x : Task) → Settles ⊥ x → Sending (asks x)
       asks_sending (does (line.Send p)) h = tt
@@ -140,14 +123,15 @@ module _ (X : Signature → Type 0) (f : Fixed) (base : State) (fits : Fits X ba
   -- ---- a job
 
   evaluated_in : (s : State) (c : ℕ) → In s → ready f s c ≡ true → c < length f.plans → Come (evaluated who s c)
+  unfolding changed
   evaluated_in s c w h l =
       let r = w.reached in
       let many = r.kept.circuits in
       let t = with_circuit s c (Taken who) in
       let u = evaluated who s c in
       let mine : circuit t.circuits c ≡ Taken who = get_or-set_same s.circuits c (Taken who) Answered (omega arith) in
-      let first = change_next who f s t r.kept (turns c (Taken who) (inl (ready_idle f s c h)) refl refl (λ _. inl h) refl) in
-      let next = change_next who f t u first.0 (turns c Evaluated (inr (rw mine (eq-eqb who who refl))) refl refl (λ _. inr (rw mine refl)) refl) in
+      let first = turn_next f s c (Taken who) (was_idle (circuit s.circuits c) (Taken who) (ready_idle f s c h) refl) r.kept in
+      let next = turn_next f t c Evaluated (was_taken who (circuit t.circuits c) Evaluated mine refl) first.0 in
       record {
         kept = next.0;
         later = later_transitive base s u r.later (later_transitive s t u first.1 next.1);
@@ -163,7 +147,8 @@ module _ (X : Signature → Type 0) (f : Fixed) (base : State) (fits : Fits X ba
         given = given_later f base s u (later_transitive s t u first.1 next.1) refl r.given;
       }
 
-  evaluated_owes : (s : State) (c : ℕ) → In s → X (Dec c) → Owes X f (evaluated who s c).present (evaluated who s c).circuits (evaluated who s c).instances
+  evaluated_owes : (s : State) (c : ℕ) → In s → X (Dec c) → Owes X f (evaluated who s c)
+  unfolding condition enough
   evaluated_owes s c w may σ (key m) none stands = absurd (rest_owes f s w.rest σ (key m) none stands)
   evaluated_owes s c w may σ (decryption d its m e) none stands = elim (cases_eq d c) [
     | inl same_ ↦ subst X (sym (its ∙ ap Dec same_)) may

@@ -13,7 +13,8 @@ use Rattle.session_rules.specs.declared.state.CircuitState.{CircuitState}
 use Rattle.session_rules.specs.declared.state.CircuitState.TheVariants.{Taken, Evaluated, Answered}
 use Rattle.session_rules.specs.declared.fixed.Fixed.{Fixed}
 use Rattle.session_rules.specs.States.{State, circuit, is_idle}
-use Rattle.session_rules.specs.Steps.{with_circuit, step}
+use Rattle.session_rules.specs.Deeds.{with_circuit}
+use Rattle.session_rules.specs.Steps.{step}
 use Rattle.session_rules.specs.Histories.{after, state_after}
 use Rattle.session_rules.specs.Tasks.{Task, finishes, exhausts, Held, Left, job, task_call, at_call, exhausting, leaves, hand_after, next_call, left}
 use Rattle.session_rules.specs.Courses.{to_do, sends, is_settled, round_tasks, Settles, Unsettled}

@@ -19,7 +19,7 @@ use Rattle.session_rules.proofs.Within.{Within, begins}
 use Rattle.run_laws.specs.Settling.{SendsAlone, SendingGives, SendingGivesInputs, SettlesAlone, SettlingLosesNobody, SettlingEnds, SettlingAnswers, SettlingAnswersThen, SerialEnds, SerialAnswers, SerialAnswersThen}
 use Rattle.run_laws.proofs.Ends.{stage_unopened, settled_unopened, settled_unready, can_later, comes_over}
 use Rattle.run_laws.proofs.Reach.{round_in}
-use Rattle.run_laws.proofs.Sends.{sends_give, sends_inputs}
+use Rattle.run_laws.proofs.Sends.{Doing, sends_give, sends_inputs}
 use Rattle.run_laws.proofs.Stages.{Any, any_fits, Stage, round_settles, round_present, stage_next}
 use Rattle.run_laws.proofs.Replies.{AreBy, own_all, all_own, by_first, by_second, Replied, replayed_replied, replied_first, replied_second}
 use Rattle.run_laws.proofs.Serial.{Rounds}
@@ -28,15 +28,20 @@ use Rattle.run_laws.proofs.Walks.{Leads, leads_from}
 
 -- ---- sending
 
-sends_lead : (f : Fixed) (who p : ℕ) (s : State) (es : List Entry) → SendsAlone f who p s es → Leads f who (length es) s (sends p ∷ []) (after f s es)
-sends_lead f who p s es a = leads_from ⊤ f who es s None (sends p ∷ []) _ (tt, tt) (all_own who es a.alone) (replayed_replied f s es a.replies) a.follows.follows refl
+sends_doing : (f : Fixed) (who p : ℕ) (s : State) (es : List Entry) → KeptWell f s → SendsAlone f who p s es → Doing f who ⊤ s (sends p ∷ []) (after f s es)
+sends_doing f who p s es k a = record {
+  calls = length es;
+  leads = leads_from ⊤ f who es s None (sends p ∷ []) _ (tt, tt) (all_own who es a.alone) (replayed_replied f s es a.replies) a.follows.follows refl;
+  all = (tt, tt);
+  well = k;
+}
 
 pub sending_gives : SendingGives
-sending_gives f who p s es k g a there = sends_give f who ⊤ p (length es) s (sends p ∷ []) (after f s es) (sends_lead f who p s es a) (tt, tt) (k, g) (contains_here (sends p) []) there
+sending_gives f who p s es k g a there = sends_give f who ⊤ p s (sends p ∷ []) (after f s es) (sends_doing f who p s es (k, g) a) (contains_here (sends p) []) there
 
 pub sending_gives_inputs : SendingGivesInputs
 sending_gives_inputs f who p s es c k kept g a there done its mine =
-    sends_inputs f who ⊤ (length es) s (sends p ∷ []) (after f s es) c k (sends_lead f who p s es a) (tt, tt) (kept, g)
+    sends_inputs f who ⊤ s (sends p ∷ []) (after f s es) c k (sends_doing f who p s es (kept, g) a)
     (subst (λ (z : ℕ). Contains (sends p ∷ []) (sends z)) (sym mine) (contains_here (sends p) [])) its done (subst (λ (z : ℕ). has s.present z ≡ true) (sym mine) there)
 
 -- ---- rounds
@@ -61,7 +66,7 @@ makes : (f : Fixed) (who n : ℕ) (s : State) (es : List Entry) → AreBy who es
 makes f who n s es by replied h = makes_then f who n s es by replied (is_settled s) refl h
 
 -- what rounds keep is kept
-pub rounds_keep : (f : Fixed) (who : ℕ) (P : State → Type 0) → ((n : ℕ) (s t : State) → Leads f who n s (round_tasks s) t → P s → P t)
+rounds_keep : (f : Fixed) (who : ℕ) (P : State → Type 0) → ((n : ℕ) (s t : State) → Leads f who n s (round_tasks s) t → P s → P t)
     → (n : ℕ) (s : State) (es : List Entry) → AreBy who es → Replied f s es → Settles n f who s es → P s → P (after f s es)
 unfolding after
 rounds_keep f who P one zero s es by replied h k = subst (λ (z : List Entry). P (after f s z)) (sym h) k

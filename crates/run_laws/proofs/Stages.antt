@@ -1,9 +1,8 @@
 -- From round to round fewer signatures can be opened: settling comes to an end.
-use Rattle.std.proofs.Common.{◌≡◌, ◌≢◌, ◌∙◌, sym, ap, subst, refl, ℕ, zero, suc, ◌<◌, ◌≤◌, Bool, true, false, inl, inr, List, [], ◌∷◌, length, map, filter, count_by, find, get_or, slice_index_or, Contains, Option, Some, None, arith}
+use Rattle.std.proofs.Common.{◌≡◌, ◌≢◌, ◌∙◌, sym, ap, subst, refl, ℕ, zero, suc, ◌<◌, ◌≤◌, Bool, true, false, inl, inr, List, [], ◌∷◌, length, map, filter, count_by, slice_index_or, Contains, None, arith}
 use Rattle.std.specs.Prelude.{not, ⊤}
-use Rattle.std.specs.List.{range_with_len, list_all}
-use Rattle.std.proofs.lemmas.Bool.{both_ways, cases_lt, and_parts, and_from, not-true}
-use Rattle.std.proofs.lemmas.List.{get_or_past}
+use Rattle.std.specs.List.{range_with_len}
+use Rattle.std.proofs.lemmas.Bool.{both_ways, cases_lt, and_parts, not-true}
 use Rattle.std.proofs.lemmas.List.Elements.{Contains-append_left}
 use Rattle.std.proofs.lemmas.List.Sums.{length-filter}
 use Rattle.share_spec.specs.Sets.{has, members, members_to}
@@ -14,23 +13,24 @@ use Rattle.proto_names.specs.declared.instance.Instance.{Instance}
 use Rattle.proto_names.specs.declared.instance.Stage.{Stage as Stage_}
 use Rattle.proto_names.specs.declared.instance.Stage.TheVariants.{Opened, Complete, Void}
 use Rattle.session_rules.specs.declared.state.CircuitState.{CircuitState}
-use Rattle.session_rules.specs.declared.state.CircuitState.TheVariants.{Refused, Idle, Taken, Evaluated, Answered}
+use Rattle.session_rules.specs.declared.state.CircuitState.TheVariants.{Idle}
 use Rattle.session_rules.specs.declared.fixed.Fixed.{Fixed}
 use Rattle.session_rules.specs.States.{State, circuit, is_given, is_idle, has_done}
-use Rattle.session_rules.specs.Steps.{is_input, is_given_input, ready, next_ready}
+use Rattle.session_rules.specs.Steps.{is_input, ready, next_ready}
 use Rattle.session_rules.specs.Tasks.{exhausts}
 use Rattle.session_rules.specs.Courses.{sends, round_tasks}
 use Rattle.session_rules.specs.Facts.{is_settled, IsSameLater, Kept, IsAtRest}
 use Rattle.session_rules.specs.Grounds.{GaveAll}
-use Rattle.session_rules.proofs.Contained.{Passing, contains_map, contains_filter, contains_filter_from, contains_range, find_some, find_none}
+use Rattle.session_rules.proofs.Contained.{Passing, contains_map, contains_filter, contains_filter_from, contains_range}
 use Rattle.session_rules.proofs.Grounds.{KeptWell}
 use Rattle.session_rules.proofs.Issued.{IsWithin, done_one, done_here}
 use Rattle.session_rules.proofs.Marks.{complete_lives, opened_lives}
 use Rattle.session_rules.proofs.PartySets.{has_party}
+use Rattle.session_rules.proofs.Readiness.{all_at, all_each, ready_before, none_is, none_from}
 use Rattle.session_rules.proofs.Within.{Reached, Fits, begins, was_or_new}
-use Rattle.run_laws.proofs.Calls.{owner, ready_idle, takes_is, nothing, takes, task_present}
-use Rattle.run_laws.proofs.Reach.{ready_before, no_job, sends_in, round_in}
-use Rattle.run_laws.proofs.Sends.{leads_well, sends_give, sends_inputs}
+use Rattle.run_laws.proofs.Calls.{owner, takes_is, nothing, takes, task_present}
+use Rattle.run_laws.proofs.Reach.{no_job, sends_in, round_in}
+use Rattle.run_laws.proofs.Sends.{leads_well, Doing, sends_give, sends_inputs}
 use Rattle.run_laws.proofs.Walks.{AllSettle, Leads, leads_between, tasks_keep, all_map, all_append}
 
 -- ---- where all who are present gave
@@ -149,19 +149,22 @@ all_send s p h = Contains-append_left (map sends (members s.present)) (exhausts 
 pub round_present : (f : Fixed) (who n : ℕ) (s t : State) → Leads f who n s (round_tasks s) t → t.present ≡ s.present
 round_present f who n s t h = tasks_keep f who ⊤ (λ (u : State). u.present ≡ s.present) (λ u x its e. task_present ⊤ f u who x its ∙ e) n s (round_tasks s) t h (round_settles s) refl
 
+round_doing : (f : Fixed) (who n : ℕ) (s t : State) → KeptWell f s → Leads f who n s (round_tasks s) t → Doing f who ⊤ s (round_tasks s) t
+round_doing f who n s t well h = record { calls = n; leads = h; all = round_settles s; well = well }
+
 -- what is opened then is new
 round_new : (f : Fixed) (who n : ℕ) (s t : State) → 1 ≤ f.threshold → KeptWell f s → Leads f who n s (round_tasks s) t → (i : Instance) → Contains t.instances i → i.stage ≡ Opened → length s.instances < i.id
 round_new f who n s t some_ well h i m opened =
     opened_new f t (length s.instances) some_ (leads_well f who n s (round_tasks s) t h well).0 (λ p there_.
     let there : has s.present p ≡ true = subst (λ (z : ℕ). has z p ≡ true) (round_present f who n s t h) there_ in
-    sends_give f who ⊤ p n s (round_tasks s) t h (round_settles s) well (all_send s p there) there) i m opened
+    sends_give f who ⊤ p s (round_tasks s) t (round_doing f who n s t well h) (all_send s p there) there) i m opened
 
 -- and, where no key is complete that was not, the inputs of those who are present are given
 round_owed : (f : Fixed) (who n : ℕ) (s t : State) (X : Signature → Type 0) → KeptWell f s → Leads f who n s (round_tasks s) t → Reached X f s t
     → ((i : Instance) → Contains s.instances i → i.stage ≡ Opened → i.signature ≢ Pk) → (X Pk → ⊥) → NothingOwed f t
 round_owed f who n s t X well h reached unopened no_ done c k its there_ =
     let there : has s.present (owner f c k) ≡ true = subst (λ (z : ℕ). has z (owner f c k) ≡ true) (round_present f who n s t h) there_ in
-    sends_inputs f who ⊤ n s (round_tasks s) t c k h (round_settles s) well (all_send s (owner f c k) there) its (done_before f X s t Pk reached unopened no_ done) there
+    sends_inputs f who ⊤ s (round_tasks s) t c k (round_doing f who n s t well h) (all_send s (owner f c k) there) its (done_before f X s t Pk reached unopened no_ done) there
 
 pk_unopened : (f : Fixed) (k : ℕ) (s : State) → Stage f k s → 1 ≤ k → (i : Instance) → Contains s.instances i → i.stage ≡ Opened → i.signature ≢ Pk
 pk_unopened f k s g l i m opened e = let h = ranked_is k i.signature Pk e (g.ranked i m opened) in absurd (omega arith)
@@ -197,45 +200,9 @@ quiet_fits f k s g more = record {
   first = λ i m opened first. let l = first_rank k i.signature first (g.ranked i m opened) in absurd (omega arith);
 }
 
--- a list of which all is given
-pub all_at : (row : List Bool) (k : ℕ) → list_all is_given_input row ≡ true → k < length row → get_or row k false ≡ true
-all_at [] k e l = absurd (omega arith)
-all_at (b ∷ bs) zero e l = (and_parts b (list_all is_given_input bs) e).0
-all_at (b ∷ bs) (suc k) e l = all_at bs k (and_parts b (list_all is_given_input bs) e).1 (omega arith)
-
-pub all_each : (row : List Bool) → ((k : ℕ) → k < length row → get_or row k false ≡ true) → list_all is_given_input row ≡ true
-all_each [] h = refl
-all_each (b ∷ bs) h = and_from b (list_all is_given_input bs) (h 0 (omega arith)) (all_each bs (λ k l. h (suc k) (omega arith)))
-
 idle_unsettled : (now : CircuitState) → is_idle now ≡ true → is_settled now ≡ true → ⊥
-idle_unsettled (Refused place bound limit) a b = cc
 idle_unsettled Idle a b = cc
-idle_unsettled (Taken caller) a b = cc
-idle_unsettled Evaluated a b = cc
-idle_unsettled Answered a b = cc
-
-pub idle_within : (f : Fixed) (s : State) (c : ℕ) → Kept f s → is_idle (circuit s.circuits c) ≡ true → c < length f.plans
-idle_within f s c k e = elim (cases_lt c (length s.circuits)) [
-  | inl less ↦ let many = k.circuits in omega arith
-  | inr more ↦ absurd (both_ways (is_idle (circuit s.circuits c)) (ap is_idle (get_or_past s.circuits c Answered more)) e)
-]
-
-none_in_range : (f : Fixed) (s : State) (c : ℕ) → next_ready f s ≡ None → ready f s c ≡ true → c < length f.plans → ⊥
-unfolding next_ready
-none_in_range f s c none h l = both_ways (ready f s c) (find_none (ready f s) (range_with_len 0 (length f.plans)) c none (contains_range 0 (length f.plans) c (omega arith) (omega arith))) h
-
-pub none_is : (f : Fixed) (s : State) (c : ℕ) → Kept f s → next_ready f s ≡ None → ready f s c ≡ true → ⊥
-none_is f s c k none e =
-    let l = idle_within f s c k (ready_idle f s c e) in
-    none_in_range f s c none e l
-
-pub none_from : (f : Fixed) (s : State) → ((c : ℕ) → ready f s c ≡ true → ⊥) → next_ready f s ≡ None
-unfolding next_ready
-none_from f s h = at (find (ready f s) (range_with_len 0 (length f.plans))) refl
-  where
-    at : (o : Option ℕ) → find (ready f s) (range_with_len 0 (length f.plans)) ≡ o → find (ready f s) (range_with_len 0 (length f.plans)) ≡ None
-    at None e = e
-    at (Some c) e = absurd (h c (find_some (ready f s) (range_with_len 0 (length f.plans)) c e).1)
+idle_unsettled other a b = cc
 
 quiet_ready : (f : Fixed) (k : ℕ) (s t : State) → Stage f k s → 3 ≤ k → KeptWell f t → Reached Nothing f s t → (c : ℕ) → ready f t c ≡ true → ready f s c ≡ true
 quiet_ready f k s t g more well reached c e =
@@ -259,11 +226,11 @@ quiet_ready f k s t g more well reached c e =
     }) e
 
 -- where no circuit is ready, working changes nothing
-work_nothing : (n : ℕ) (f : Fixed) (who : ℕ) (s t : State) → next_ready f s ≡ None → Leads f who n s (exhausts ∷ []) t → t ≡ s
-work_nothing zero f who s t none h = let no_ : exhausts ∷ [] ≡ [] = h.0 in cc
-work_nothing (suc n) f who s t none h = elim (takes_is f who s) [
+work_nothing : (n : ℕ) (f : Fixed) (who : ℕ) (s t : State) → Kept f s → next_ready f s ≡ None → Leads f who n s (exhausts ∷ []) t → t ≡ s
+work_nothing zero f who s t k none h = let no_ : exhausts ∷ [] ≡ [] = h.0 in cc
+work_nothing (suc n) f who s t k none h = elim (takes_is f who s) [
   | nothing e j same ↦ stays n (no_job f who n s t j same h)
-  | takes c r l j same ↦ absurd (none_in_range f s c none r l)
+  | takes c r l j same ↦ absurd (none_is f s c k none r)
 ]
   where
     stays : (n : ℕ) → Leads f who n s [] t → t ≡ s
@@ -279,7 +246,7 @@ late f who k n s t some_ more g h =
     let w = sends_in Nothing f s (quiet_fits f k s g more) who b.here s ps u b.first (all_map ⊥ sends (members s.present) (λ p. tt)) (begins Nothing f s g.well.0 g.rest) in
     let none : next_ready f u ≡ None =
     none_from f u (λ c e. none_is f s c g.well.0 (g.none (omega arith)) (quiet_ready f k s u g more (leads_well f who b.here s ps u b.first g.well) w.reached c e)) in
-    let same : u ≡ t = sym (work_nothing b.more f who u t none b.second) in
+    let same : u ≡ t = sym (work_nothing b.more f who u t w.reached.kept none b.second) in
     let reached = subst (Reached Nothing f s) same w.reached in
     let nobody : (i : Instance) → Contains t.instances i → i.stage ≡ Opened → ⊥ =
     λ i m opened. (reached.brought i m (opened_lives i opened) (round_new f who n s t some_ g.well h i m opened)).0 in

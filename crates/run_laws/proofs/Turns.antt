@@ -1,34 +1,28 @@
 -- What single calls do to circuits, of `step` alone.
-use Rattle.std.proofs.Common.{◌≡◌, ◌∙◌, sym, ap, subst, refl, ℕ, ◌<◌, ◌≤◌, Bool, true, false, not, nat_eq, inl, inr, List, length, set, slice_index_or, Option, Some, None, arith, length-set}
-use Rattle.std.specs.Prelude.{if◌then◌else◌, ⊤}
+use Rattle.std.proofs.Common.{◌≡◌, ◌∙◌, sym, ap, subst, refl, ℕ, ◌<◌, ◌≤◌, Bool, true, false, inl, inr, List, length, set, Some, None, arith, length-set}
+use Rattle.std.specs.Prelude.{if◌then◌else◌, cond, ⊤}
 use Rattle.std.proofs.lemmas.Bool.{both_ways, cases_eq, cases_lt, eq-eqb}
 use Rattle.std.proofs.lemmas.List.{get_or_past, get_or-set_same, get_or-set_other}
-use Rattle.share_spec.specs.Sets.{has}
-use Rattle.proto_names.specs.Names.{rows_of}
-use Rattle.proto_names.specs.Groups.{with_party, without_party}
-use Rattle.proto_names.specs.Instances.{instance, missing, after_share}
 use Rattle.proto_names.specs.declared.signature.Signature.{Signature}
-use Rattle.proto_names.specs.declared.signature.Signature.TheVariants.{Pk, Rlk1, Rlk2, Rot, Dec}
-use Rattle.proto_names.specs.declared.instance.Instance.{Instance}
-use Rattle.proto_names.specs.declared.instance.Stage.{Stage}
-use Rattle.proto_names.specs.declared.instance.Stage.TheVariants.{Opened, Complete, Void}
+use Rattle.proto_names.specs.declared.signature.Signature.TheVariants.{Dec}
 use Rattle.session_rules.specs.declared.call.Call.{Call}
 use Rattle.session_rules.specs.declared.call.Call.TheVariants as call
 use Rattle.session_rules.specs.declared.reply.Reply.{Reply}
 use Rattle.session_rules.specs.declared.reply.Reply.TheVariants as reply
 use Rattle.session_rules.specs.declared.state.CircuitState.{CircuitState}
-use Rattle.session_rules.specs.declared.state.CircuitState.TheVariants.{Idle, Taken, Evaluated, Answered}
+use Rattle.session_rules.specs.declared.state.CircuitState.TheVariants.{Refused, Idle, Taken, Evaluated, Answered}
 use Rattle.session_rules.specs.declared.fixed.Fixed.{Fixed}
-use Rattle.session_rules.specs.States.{State, circuit, plan, is_idle, is_taken_by, is_given, has_done}
-use Rattle.session_rules.specs.Issues.{issue}
-use Rattle.session_rules.specs.Steps.{join, lose, after_loss, deliver, by_stage, accepted, counted, answered_by, input, is_input, with_input, ready, with_circuit, finish, give_back, step}
+use Rattle.session_rules.specs.States.{State, circuit, is_idle, is_taken_by}
+use Rattle.session_rules.specs.Deeds.{is_last, answered_by, with_circuit, changed, done}
+use Rattle.session_rules.specs.Steps.{says, does as done_with, finish, give_back, judge, step}
+use Rattle.session_rules.specs.Allowed.{Allows}
+use Rattle.session_rules.specs.declared.deed.Deed.{Deed}
+use Rattle.session_rules.specs.declared.deed.Deed.TheVariants as deed
 use Rattle.session_rules.specs.Tasks.{job}
-use Rattle.run_laws.proofs.Calls.{ready_idle, nothing, takes, takes_is}
-
--- what issuing leaves
-issue_leaves : (f : Fixed) (s : State) → (issue f s).circuits ≡ s.circuits
-unfolding issue
-issue_leaves f s = refl
+use Rattle.session_rules.proofs.Judged.{judged}
+use Rattle.session_rules.proofs.Readiness.{ready_idle}
+use Rattle.session_rules.proofs.Stepwise.{done_beside}
+use Rattle.run_laws.proofs.Calls.{nothing, takes, takes_is}
 
 -- calls that take no circuit, and give none back
 abbrev pub IsQuiet : Call → Type 0
@@ -59,95 +53,37 @@ module _ (P : CircuitState → Type 0) (answered : P Answered → ⊥) (evaluate
   as_before : (s t : State) → t.circuits ≡ s.circuits → Before s t
   as_before s t e d h = subst (λ (z : List CircuitState). P (circuit z d)) e h
 
-  either : (s : State) (b : Bool) (x y : Reply × State) → Before s x.1 → Before s y.1 → Before s (if b then x else y).1
-  either s true x y h k = h
-  either s false x y h k = k
-
-  stays : (s : State) → Before s s
-  stays s d h = h
-
-  answered_before : (s t : State) (σ : Signature) → t.circuits ≡ answered_by σ s.circuits → Before s t
+  counted_before : (circuits : List CircuitState) (σ : Signature) (b : Bool) (d : ℕ) → P (circuit (cond b (answered_by σ circuits) circuits) d) → P (circuit circuits d)
   unfolding answered_by
-  answered_before s t Pk e = as_before s t e
-  answered_before s t Rlk1 e = as_before s t e
-  answered_before s t Rlk2 e = as_before s t e
-  answered_before s t (Rot g) e = as_before s t e
-  answered_before s t (Dec c) e = λ d h. set_before s.circuits c Answered answered d (subst (λ (z : List CircuitState). P (circuit z d)) e h)
+  counted_before circuits σ false d h = h
+  counted_before circuits (Dec c) true d h = set_before circuits c Answered answered d h
+  counted_before circuits other true d h = h
 
-  join_before : (f : Fixed) (s : State) (p : ℕ) → Before s (join f s p).1
-  unfolding join
-  join_before f s p =
-      let t : State = record s { present = with_party s.present p } in
-      either s (has s.present p) (reply.Already, s) (reply.Joined, issue f t) (stays s) (as_before s (issue f t) (issue_leaves f t))
+  deed_before : (f : Fixed) (s : State) (caller : ℕ) (c : Call) (r : Reply) (d : Deed) → IsQuiet c → Allows f s caller c r d → Before s (changed d s)
+  unfolding changed
+  deed_before f s caller c r (deed.Counts i p) q a = counted_before s.circuits i.signature (is_last p i)
+  deed_before f s caller c r (deed.Turns d (Refused place bound limit)) q a = absurd a
+  deed_before f s caller c r (deed.Turns d Idle) q a = absurd (subst IsQuiet a.call q)
+  deed_before f s caller c r (deed.Turns d (Taken who)) q a = absurd (subst IsQuiet a.call q)
+  deed_before f s caller c r (deed.Turns d Evaluated) q a = set_before s.circuits d Evaluated evaluated
+  deed_before f s caller c r (deed.Turns d Answered) q a = absurd a
+  deed_before f s caller c r other q a = λ d h. h
 
-  lose_before : (f : Fixed) (s : State) (p : ℕ) → Before s (lose f s p).1
-  unfolding lose
-  lose_before f s p =
-      let t : State = record s { present = without_party s.present p; instances = after_loss p s.instances } in
-      either s (not (has s.present p)) (reply.Already, s) (reply.Left, issue f t) (stays s) (as_before s (issue f t) (issue_leaves f t))
-
-  counted_before : (f : Fixed) (s : State) (i : Instance) (p : ℕ) → Before s (counted f s i p).1
-  unfolding counted
-  counted_before f s i p =
-      let next : State = record s { instances = after_share i.id p s.instances } in
-      let whole : State = record next { circuits = answered_by i.signature s.circuits } in
-      either s (nat_eq (missing p i) 0) (reply.Completed, issue f whole) (reply.Counted (missing p i), next)
-      (answered_before s (issue f whole) i.signature (issue_leaves f whole)) (as_before s next refl)
-
-  accepted_before : (f : Fixed) (s : State) (i : Instance) (p rows : ℕ) → Before s (accepted f s i p rows).1
-  unfolding accepted
-  accepted_before f s i p rows =
-      either s (has i.sent.bits p) (reply.Repeat, s) _ (stays s)
-      (either s (not (nat_eq (rows_of i.signature f.rows) rows)) (reply.Shape (rows_of i.signature f.rows) rows, s) (counted f s i p) (stays s) (counted_before f s i p))
-
-  by_stage_before : (f : Fixed) (s : State) (i : Instance) (p rows : ℕ) (stage : Stage) → Before s (by_stage f s i p rows stage).1
-  unfolding by_stage
-  by_stage_before f s i p rows (Void by) = stays s
-  by_stage_before f s i p rows Opened = accepted_before f s i p rows
-  by_stage_before f s i p rows Complete = accepted_before f s i p rows
-
-  found_before : (f : Fixed) (s : State) (p rows : ℕ) (o : Option Instance) → Before s (elim o as (λ x. Reply × State) [
-    | None ↦ (reply.Unknown (length s.instances), s)
-    | Some i ↦ if has i.set.bits p then by_stage f s i p rows i.stage else (reply.Stranger, s)
-  ]).1
-  found_before f s p rows None = stays s
-  found_before f s p rows (Some i) = either s (has i.set.bits p) (by_stage f s i p rows i.stage) (reply.Stranger, s) (by_stage_before f s i p rows i.stage) (stays s)
-
-  deliver_before : (f : Fixed) (s : State) (id p rows : ℕ) → Before s (deliver f s id p rows).1
-  unfolding deliver
-  deliver_before f s id p rows = found_before f s p rows (instance s.instances id)
-
-  input_before : (f : Fixed) (s : State) (c k : ℕ) → Before s (input f s c k).1
-  unfolding input
-  input_before f s c k =
-      either s (not (is_input f c k)) (reply.NoInput, s) _ (stays s)
-      (either s (not (has_done Pk s.instances)) (reply.NoKey, s) _ (stays s)
-      (either s (not (has s.present (slice_index_or (plan f c).owners k 0))) (reply.Absent, s) _ (stays s)
-      (either s (is_given s c k) (reply.Repeat, s) (reply.Given, record s { given = with_input s.given c k }) (stays s) (as_before s (record s { given = with_input s.given c k }) refl))))
-
-  finish_before : (f : Fixed) (s : State) (caller c : ℕ) → Before s (finish f s caller c).1
-  unfolding finish
-  finish_before f s caller c =
-      let t = with_circuit s c Evaluated in
-      either s (is_taken_by caller (circuit s.circuits c)) (reply.Finished, issue f t) (reply.NotTaken, s)
-      (λ d h. set_before s.circuits c Evaluated evaluated d (subst (λ (z : List CircuitState). P (circuit z d)) (issue_leaves f t) h)) (stays s)
+  done_before : (f : Fixed) (s : State) (d : Deed) → Before s (changed d s) → Before s (done f d s)
+  done_before f s d h e p = h e (subst (λ (z : List CircuitState). P (circuit z e)) (done_beside f d s).circuits p)
 
   pub quiet_before : (f : Fixed) (s : State) (caller : ℕ) (c : Call) → IsQuiet c → Before s (step f s caller c).1
   unfolding step
-  quiet_before f s caller (call.Join p) q = join_before f s p
-  quiet_before f s caller (call.Lose p) q = lose_before f s p
-  quiet_before f s caller (call.Pending p) q = stays s
-  quiet_before f s caller (call.Brief id) q = stays s
-  quiet_before f s caller (call.Deliver id p rows) q = deliver_before f s id p rows
-  quiet_before f s caller (call.Input c k) q = input_before f s c k
-  quiet_before f s caller call.Take q = absurd q
-  quiet_before f s caller (call.Finish c) q = finish_before f s caller c
-  quiet_before f s caller (call.GiveBack c) q = absurd q
+  quiet_before f s caller c q =
+      let v = judge f s caller c in done_before f s v.deed (deed_before f s caller c v.reply v.deed q (judged f s caller c))
 
   pub give_back_before : (f : Fixed) (s : State) (caller c : ℕ) → (P Idle → ⊥) → Before s (step f s caller (call.GiveBack c)).1
-  unfolding step give_back
-  give_back_before f s caller c idle =
-      either s (is_taken_by caller (circuit s.circuits c)) (reply.Returned, with_circuit s c Idle) (reply.NotTaken, s) (set_before s.circuits c Idle idle) (stays s)
+  unfolding step judge give_back done changed
+  give_back_before f s caller c idle = at (is_taken_by caller (circuit s.circuits c))
+    where
+      at : (b : Bool) → Before s (done f (if b then done_with reply.Returned (deed.Turns c Idle) else says reply.NotTaken).deed s)
+      at true = set_before s.circuits c Idle idle
+      at false = λ d h. h
 
 -- ---- take
 
@@ -227,21 +163,24 @@ turned who circuits c now no_ mine h = elim (cases_lt c (length circuits)) [
 abbrev NotMine : ℕ → ℕ → State → Type 0
 NotMine who c t = circuit t.circuits c ≡ Taken who → ⊥
 
-which : (who c : ℕ) (b : Bool) (x y : Reply × State) → (b ≡ true → NotMine who c x.1) → (b ≡ false → NotMine who c y.1) → NotMine who c (if b then x else y).1
-which who c true x y h k = h refl
-which who c false x y h k = k refl
+which : (f : Fixed) (s : State) (who c : ℕ) (b : Bool) (now : CircuitState) (r : Reply) → (b ≡ true → NotMine who c (done f (deed.Turns c now) s)) → (b ≡ false → NotMine who c s)
+    → NotMine who c (done f (if b then done_with r (deed.Turns c now) else says reply.NotTaken).deed s)
+unfolding done changed
+which f s who c true now r h k = h refl
+which f s who c false now r h k = k refl
+
+turned_none : (f : Fixed) (s : State) (who c : ℕ) (now : CircuitState) → (now ≡ Taken who → ⊥) → is_taken_by who (circuit s.circuits c) ≡ true → NotMine who c (done f (deed.Turns c now) s)
+unfolding changed
+turned_none f s who c now no_ mine h = turned who s.circuits c now no_ mine (subst (λ (z : List CircuitState). circuit z c ≡ Taken who) (done_beside f (deed.Turns c now) s).circuits h)
 
 pub finished_none : (f : Fixed) (s : State) (who c : ℕ) → circuit (step f s who (call.Finish c)).1.circuits c ≡ Taken who → ⊥
-unfolding step finish
+unfolding step judge finish
 finished_none f s who c =
-    let t = with_circuit s c Evaluated in
-    which who c (is_taken_by who (circuit s.circuits c)) (reply.Finished, issue f t) (reply.NotTaken, s)
-    (λ mine h. turned who s.circuits c Evaluated (not_evaluated who) mine (subst (λ (z : List CircuitState). circuit z c ≡ Taken who) (issue_leaves f t) h))
+    which f s who c (is_taken_by who (circuit s.circuits c)) Evaluated reply.Finished (turned_none f s who c Evaluated (not_evaluated who))
     (λ other h. both_ways (is_taken_by who (circuit s.circuits c)) other (mine_yes who (circuit s.circuits c) h))
 
 pub returned_none : (f : Fixed) (s : State) (who c : ℕ) → circuit (step f s who (call.GiveBack c)).1.circuits c ≡ Taken who → ⊥
-unfolding step give_back
+unfolding step judge give_back
 returned_none f s who c =
-    which who c (is_taken_by who (circuit s.circuits c)) (reply.Returned, with_circuit s c Idle) (reply.NotTaken, s)
-    (λ mine h. turned who s.circuits c Idle (not_idle who) mine h)
+    which f s who c (is_taken_by who (circuit s.circuits c)) Idle reply.Returned (turned_none f s who c Idle (not_idle who))
     (λ other h. both_ways (is_taken_by who (circuit s.circuits c)) other (mine_yes who (circuit s.circuits c) h))

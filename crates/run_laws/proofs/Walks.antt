@@ -145,14 +145,14 @@ module _ (f : Fixed) (who : ℕ) (W : Type 0) (P : State → Type 0) (one : (s :
     pub at : State
     pub behind : List Task
     pub leads : Leads f who calls at (x ∷ behind) t
-    pub all : AllSettle W behind
+    pub all : AllSettle W (x ∷ behind)
     pub kept : P at
 
   pub arrives : (n : ℕ) (s : State) (ts : List Task) (t : State) (x : Task) → Leads f who n s ts t → AllSettle W ts → Contains ts x → P s → Arrives x t
   arrives n s [] t x h all m k = absurd (contains_nil x m)
   arrives zero s (y ∷ ts) t x h all m k = let none : y ∷ ts ≡ [] = h.0 in cc
   arrives (suc n) s (y ∷ ts) t x h all m k = elim (contains_cases y ts x m) [
-    | inl here ↦ record { calls = suc n; at = s; behind = ts; leads = subst (λ (z : Task). Leads f who (suc n) s (z ∷ ts) t) here h; all = all.1; kept = k }
+    | inl here ↦ record { calls = suc n; at = s; behind = ts; leads = subst (λ (z : Task). Leads f who (suc n) s (z ∷ ts) t) here h; all = subst (λ (z : Task). AllSettle W (z ∷ ts)) here all; kept = k }
     | inr more ↦
         let r = (step f s who (asks y)).0 in
         arrives n _ (leaves f.rows y r ++ ts) t x h (all_append W _ ts (leaves_settle W f.rows y r all.0) all.1) (Contains-append_right (leaves f.rows y r) ts x more) (one s y all.0 k)

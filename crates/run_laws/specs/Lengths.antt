@@ -159,10 +159,10 @@ SmallOnesAreShort = (f : Fixed) (present : List ℕ) (lanes : List (List Line)) 
 
 -- ---- of circuits
 
--- of circuits no more is asked for than three keys, a rotation for each number below 2n, and a decryption of
--- each; and they have no more inputs than nodes
+-- no more is asked for than three keys, one for each different rotation, and a decryption of each circuit; and
+-- circuits have no more inputs than nodes
 abbrev pub FewAreSigned : Type 0
-FewAreSigned = (p : Numbers) (circuits : List (List Node)) → length (signatures (fixed_of p circuits)) ≤ 3 + 2 * p.n + length circuits
+FewAreSigned = (f : Fixed) → length (signatures f) ≤ 3 + length f.turns + length f.plans
 
 abbrev pub node_count : List Node → ℕ
 node_count nodes = length nodes

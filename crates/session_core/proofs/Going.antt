@@ -10,21 +10,23 @@ use Rattle.session_rules.specs.declared.call.Entry.{Entry}
 use Rattle.session_rules.specs.declared.fixed.Fixed.{Fixed}
 use Rattle.session_rules.specs.declared.reply.Reply.{Reply}
 use Rattle.session_rules.specs.States.{State}
-use Rattle.session_rules.specs.Steps.{step}
+use Rattle.session_rules.specs.Steps.{judge, step}
 use Rattle.session_rules.specs.Tasks.{entry}
 use Rattle.session_rules.specs.Histories.{IsLegal, state_after}
-use Rattle.session_rules.proofs.Changes.{Joins}
 use Rattle.session_spec.specs.Settings.{Setting}
-use Rattle.session_spec.specs.Stores.{Store}
-use Rattle.session_spec.specs.Honesty.{IsHonest}
+use Rattle.session_spec.specs.Stores.{Store, Brought, store_done}
+use Rattle.session_spec.specs.Honesty.{IsHonest, Brings}
 use Rattle.session_spec.specs.Laws.{Stands}
+use Rattle.session_laws.proofs.Calls.{calls_keep_honest}
+use Rattle.circuit_laws.proofs.Outputs.{outputs_carry}
+use Rattle.answer_laws.proofs.Answers.{answers_are_plain}
 use Rattle.session_state.specs.declared.standing.Standing.{Standing}
 use Rattle.session_state.specs.Standings.{setting, rules_of, state, store}
 use Rattle.session_core.specs.declared.session.Session.{Session}
-use Rattle.session_core.specs.Sessions.{Known, known_by, said, IsParty, IsSound, IsSoundBy}
-use Rattle.session_core.specs.Calls.{known, reply_to, HasSpare, Doubles, Waits, Made}
+use Rattle.session_core.specs.Sessions.{Known, known_by, said, IsSound, IsSoundBy}
+use Rattle.session_core.specs.Calls.{known, reply_to, made_store, HasSpare, Doubles, Waits, Made}
 use Rattle.session_core.proofs.Grown.{after_call, stands}
-use Rattle.session_core.proofs.Members.{still_present}
+use Rattle.session_core.proofs.Members.{JoinsOf, still_present}
 
 abbrev known_from : Bool → (ℕ → List ℕ) → ℕ → Setting → Params → Known
 known_from tells seed most w p = record { params = p; setting = w; tells = tells; seeds = seeds_told seed p.parties; most = most }
@@ -36,13 +38,13 @@ module _ {R : Type 0} {K : Ghosts R} where
   pub stands_in : (s : Session R K) → K.tells s.roll ≡ true → Stands s.standing.params (known s).setting (known s).seeds (state s.standing) (store s.standing)
   stands_in s t = stands (K.tells s.roll) (K.seed s.roll) s.max_calls s.standing s.log.items s.state_is s.sound t
 
-  -- what the call of its standing came to
-  pub record Moved (s : Session R K) (now : Standing) (caller : ℕ) (c : Call) (r : Reply) (h : Store) : Type 0 where
+  -- what the call of its standing came to, with what it brought
+  pub record Moved (s : Session R K) (now : Standing) (caller : ℕ) (c : Call) (r : Reply) (b : Brought) : Type 0 where
     pub setting : setting now ≡ setting s.standing
     pub params : now.params ≡ s.standing.params
     pub reply : r ≡ (step (rules_of s.standing) (state s.standing) caller c).0
     pub state : state now ≡ (step (rules_of s.standing) (state s.standing) caller c).1
-    pub store : store now ≡ h
+    pub store : store now ≡ made_store s caller c b
 
   pub record GoesOn (s : Session R K) (now : Standing) (items : List Entry) : Type 0 where
     pub public_is : now.public ≡ K.public s.roll
@@ -50,25 +52,30 @@ module _ {R : Type 0} {K : Ghosts R} where
     pub state_is : state now ≡ state_after (rules_of now) items
     pub sound : IsSoundBy (K.tells s.roll) (K.seed s.roll) s.max_calls now items
 
-  pub goes_on : (old s : Session R K) (now : Standing) (items : List Entry) (caller : ℕ) (c : Call) (r : Reply) (h : Store)
-      → Waits old s → length old.log.items < old.max_calls → Joins (IsParty s.standing.params.parties) c → Moved s now caller c r h
-      → (K.tells s.roll ≡ true → Stands s.standing.params (known s).setting (known s).seeds (state s.standing) (store s.standing)
-      → IsHonest (known s).setting (known s).seeds (step (rules_of s.standing) (state s.standing) caller c).1 h)
-      → items ≡ s.log.items ++ entry caller c r ∷ [] → GoesOn s now items
-  goes_on old s now items caller c r h w begun joins moved honest logged =
+  -- the polynomials then, where what is brought is honest
+  honest_then : (s : Session R K) (caller : ℕ) (c : Call) (b : Brought) → K.tells s.roll ≡ true → Brings (known s).setting (known s).seeds (state s.standing) (judge (rules_of s.standing) (state s.standing) caller c).deed b
+      → IsHonest (known s).setting (known s).seeds (step (rules_of s.standing) (state s.standing) caller c).1 (made_store s caller c b)
+  honest_then s caller c b t brings =
+      calls_keep_honest (answers_are_plain outputs_carry) s.standing.params (known s).setting (known s).seeds (state s.standing) (store s.standing) caller c b (stands_in s t) brings
+
+  pub goes_on : (old s : Session R K) (now : Standing) (items : List Entry) (caller : ℕ) (c : Call) (r copy : Reply) (b : Brought) → copy ≡ r
+      → Waits old s → length old.log.items < old.max_calls → JoinsOf s.standing.params.parties c → Moved s now caller c r b
+      → (K.tells s.roll ≡ true → Brings (known s).setting (known s).seeds (state s.standing) (judge (rules_of s.standing) (state s.standing) caller c).deed b)
+      → items ≡ s.log.items ++ entry caller c copy ∷ [] → GoesOn s now items
+  goes_on old s now items caller c r copy b same w begun joins moved brings logged =
       let st = s.standing in
       let f : Fixed = rules_of st in
       let more : length s.log.items < s.max_calls = rw (w.log, w.most) begun in
-      let leads = after_call st now s.log.items items caller c r (record { legal = s.legal; state_is = s.state_is }) moved.setting moved.reply moved.state logged in
+      let leads = after_call st now s.log.items items caller c copy (record { legal = s.legal; state_is = s.state_is }) moved.setting (same ∙ moved.reply) moved.state logged in
       let sound : IsSound (known s) now items = record {
         some = s.sound.some;
         most = s.sound.most;
-        few = rw logged (omega (arith, length-append s.log.items (entry caller c r ∷ [])));
+        few = rw logged (omega (arith, length-append s.log.items (entry caller c copy ∷ [])));
         modest = s.sound.modest;
         parties = still_present st.params.parties f (state st) (state now) caller c joins s.sound.parties moved.state;
         values = s.sound.values;
         honest = λ t. subst (λ (z : State). IsHonest (known s).setting (known s).seeds z (store now)) (sym moved.state)
-            (subst (λ (z : Store). IsHonest (known s).setting (known s).seeds (step f (state st) caller c).1 z) (sym moved.store) (honest t (stands_in s t)));
+            (subst (λ (z : Store). IsHonest (known s).setting (known s).seeds (step f (state st) caller c).1 z) (sym moved.store) (honest_then s caller c b t (brings t)));
       } in
       record {
         public_is = ap (λ (w : Setting). w.public) moved.setting ∙ s.public_is;
@@ -87,12 +94,16 @@ module _ {R : Type 0} {K : Ghosts R} where
   pub reply_is : (old s : Session R K) (caller : ℕ) (c : Call) → Waits old s → reply_to old caller c ≡ (step (rules_of s.standing) (state s.standing) caller c).0
   reply_is old s caller c w = ap (λ (x : Reply × State). x.0) (sym (said_is old s caller c w))
 
-  pub made : (old s new : Session R K) (caller : ℕ) (c : Call) (r copy : Reply) (h : Store) → copy ≡ r → Waits old s → Doubles old s → HasSpare s → Moved s new.standing caller c r h
+  pub made : (old s new : Session R K) (caller : ℕ) (c : Call) (r copy : Reply) (b : Brought) → copy ≡ r → Waits old s → Doubles old s → HasSpare s → Moved s new.standing caller c r b
       → new.log.items ≡ s.log.items ++ entry caller c copy ∷ [] → vec_len new.log ≡ vec_len s.log + 1 → vec_capacity new.log ≡ vec_capacity s.log → Made old new caller c r
-  made old s new caller c r copy h same w doubles spare moved logged len capacity = record {
+  made old s new caller c r copy b same w doubles spare moved logged len capacity = record {
     reply = moved.reply ∙ ap (λ (x : Reply × State). x.0) (said_is old s caller c w);
     state = moved.state ∙ ap (λ (x : Reply × State). x.1) (said_is old s caller c w);
     log = logged ∙ ap₂ (λ (es : List Entry) (x : Reply). es ++ entry caller c x ∷ []) w.log same;
     room = omega (arith, w.room);
     doubles = omega arith;
   }
+
+  pub store_made : (old s : Session R K) (caller : ℕ) (c : Call) (b : Brought) (h : Store) → Waits old s → h ≡ made_store s caller c b → h ≡ made_store old caller c b
+  store_made old s caller c b h w e =
+      e ∙ ap (λ (st : Standing). store_done (setting st) (judge (rules_of st) (state st) caller c).deed b (step (rules_of st) (state st) caller c).1.instances (store st)) w.standing

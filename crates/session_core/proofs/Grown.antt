@@ -19,9 +19,10 @@ use Rattle.session_rules.specs.Facts.{Kept}
 use Rattle.session_rules.specs.Grounds.{Grounded}
 use Rattle.session_rules.proofs.Keeps.{histories_keep}
 use Rattle.session_rules.proofs.Grounds.{histories_ground}
-use Rattle.session_rules.proofs.Runs.{histories_issue_few, legal_ones_grow, next_state}
+use Rattle.session_rules.proofs.Presence.{histories_issue_few}
+use Rattle.session_rules.proofs.Runs.{legal_ones_grow, next_state}
 use Rattle.session_spec.specs.Settings.{Setting, rules, Offer, Tells}
-use Rattle.session_laws.proofs.Joins.{rules_whole, opening_is_honest}
+use Rattle.session_laws.proofs.Beginnings.{rules_whole, opening_is_honest}
 use Rattle.session_state.specs.declared.standing.Standing.{Standing}
 use Rattle.session_state.specs.Standings.{setting, rules_of, state, HasRoom, store}
 use Rattle.session_core.specs.Sessions.{IsReady, HasTold, IsModest, IsSoundBy}

@@ -1,7 +1,6 @@
 -- What is handed out where the polynomials are honest, and that it fits.
 use Rattle.std.proofs.Common.{◌≡◌, ◌∙◌, sym, ap, subst, refl, ℕ, Bool, true, false, not, inl, inr, List, [], length, map, get_or, Contains, Option, Some, None, arith, ◌+◌, ◌-◌, ◌*◌, ◌<◌}
 use Rattle.std.specs.Prelude.{IfSome, IsSome, IsTrue}
-use Rattle.std.specs.List.{range_with_len}
 use Rattle.std.specs.declared.alloc.Global.{Global}
 use Rattle.std.specs.declared.sync.Arc.{Arc}
 use Rattle.std.specs.Option.{option_map}
@@ -24,18 +23,19 @@ use Rattle.session_rules.specs.declared.call.Entry.{Entry}
 use Rattle.session_rules.specs.declared.reply.Reply.{Reply}
 use Rattle.session_rules.specs.declared.reply.Reply.TheVariants as reply
 use Rattle.session_rules.specs.declared.fixed.Fixed.{Fixed}
+use Rattle.session_rules.specs.declared.deed.Deed.TheVariants.{Turns}
+use Rattle.session_rules.specs.declared.deed.Verdict.{Verdict}
 use Rattle.session_rules.specs.declared.state.CircuitState.TheVariants.{Taken}
 use Rattle.session_rules.specs.States.{State}
 use Rattle.session_rules.specs.Steps as steps
 use Rattle.session_rules.specs.Facts.{IsLive}
 use Rattle.session_rules.specs.Histories.{state_after}
-use Rattle.session_rules.proofs.Contained.{find_some, range_within}
-use Rattle.session_rules.proofs.Marks.{instance_within, numbered_at}
+use Rattle.session_rules.proofs.Readiness.{found_ready}
+use Rattle.session_rules.proofs.Marks.{instance_id, instance_within, numbered_at}
 use Rattle.session_spec.specs.Settings.{Setting, rules}
 use Rattle.session_spec.specs.Outputs.{key_instance, key_in, inputs_of, polys_of, sums_of}
 use Rattle.session_spec.specs.Stores.{Store, cipher_or, held_polys, held_sums, held_key, key_by}
 use Rattle.session_spec.specs.Laws.{Stands}
-use Rattle.session_rules.proofs.Marks.{instance_number}
 use Rattle.session_laws.proofs.Plans.{rules_number}
 use Rattle.session_laws.proofs.Inputs.{ready_ones_have_inputs}
 use Rattle.session_laws.proofs.HeldKeys.{held_keys_are_keys}
@@ -116,7 +116,7 @@ brief_fits st es i h b e m x = elim ((grounded st es e).asked i m) [
 pub brief_honest : (p : Params) (w : Setting) (seeds : List (List ℕ)) (s : State) (h : Store) (id : ℕ) (i : Instance) (b : Brief) → Stands p w seeds s h
     → instance s.instances id ≡ Some i → IsLive i → IsBriefOf p h i b → b.polys ≡ polys_of w seeds (key_in w seeds s.instances) b.signature
 brief_honest p w seeds s h id i b y found lives x =
-    let same : held_polys h i.id ≡ held_polys h id = ap (held_polys h) (instance_number s.instances id i y.kept.numbered found) in
+    let same : held_polys h i.id ≡ held_polys h id = ap (held_polys h) (instance_id s.instances id i y.kept.numbered found) in
     x.polys ∙ same ∙ y.honest.told id i found lives ∙ ap (polys_of w seeds (key_in w seeds s.instances)) (sym x.signature)
 
 -- ---- sums
@@ -165,27 +165,25 @@ sums_if p w seeds s h id read (Some x) y value stands = λ t i found. value ∙ 
 
 -- ---- the inputs of a circuit
 
-ready_if : (s : State) (c : ℕ) (goes : ℕ → State) (o : Option ℕ) → (elim o as (λ x. Reply × State) [
-  | None ↦ (reply.Nothing, s)
-  | Some d ↦ (reply.Job d, goes d)
-]).0 ≡ reply.Job c → o ≡ Some c
-ready_if s c goes None e = cc
-ready_if s c goes (Some d) e = cc
+ready_if : (who c : ℕ) (o : Option ℕ) → (elim o as (λ x. Verdict) [
+  | None ↦ steps.says reply.Nothing
+  | Some d ↦ steps.does (reply.Job d) (Turns d (Taken who))
+]).reply ≡ reply.Job c → o ≡ Some c
+ready_if who c None e = cc
+ready_if who c (Some d) e = cc
 
-taken_ready : (f : Fixed) (s : State) (who c : ℕ) → (steps.take f s who).0 ≡ reply.Job c → steps.next_ready f s ≡ Some c
+taken_ready : (f : Fixed) (s : State) (who c : ℕ) → (steps.take f s who).reply ≡ reply.Job c → steps.next_ready f s ≡ Some c
 unfolding steps.take
-taken_ready f s who c e = ready_if s c (λ d. steps.with_circuit s d (Taken who)) (steps.next_ready f s) e
+taken_ready f s who c e = ready_if who c (steps.next_ready f s) e
 
 taken_inputs : (p : Params) (w : Setting) (seeds : List (List ℕ)) (s : State) (h : Store) (c : ℕ) → Stands p w seeds s h → steps.next_ready (rules w) s ≡ Some c
     → map cipher_or (get_or h.inputs c []) ≡ inputs_of w seeds (key_in w seeds s.instances) c
-unfolding steps.next_ready
 taken_inputs p w seeds s h c y e =
-    let found = find_some (steps.ready (rules w) s) (range_with_len 0 (length (rules w).plans)) c e in
-    let within = range_within 0 (length (rules w).plans) c found.0 in
-    ready_ones_have_inputs p w seeds s h c y (omega (arith, rules_number w)) found.1
+    let found = found_ready (rules w) s c e in
+    ready_ones_have_inputs p w seeds s h c y (omega (arith, found.1, rules_number w)) found.0
 
 pub inputs_if : (p : Params) (w : Setting) (seeds : List (List ℕ)) (s : State) (h : Store) (who : ℕ) (job : Option Job) → Stands p w seeds s h
-    → IfSome job (λ j. (steps.take (rules w) s who).0 ≡ reply.Job j.number) → IfSome job (λ j. IsJobFor w h j.number j)
+    → IfSome job (λ j. (steps.take (rules w) s who).reply ≡ reply.Job j.number) → IfSome job (λ j. IsJobFor w h j.number j)
     → IfSome job (λ j. j.inputs ≡ inputs_of w seeds (key_in w seeds s.instances) j.number)
 inputs_if p w seeds s h who None y goes is = tt
 inputs_if p w seeds s h who (Some j) y goes is = is.inputs ∙ taken_inputs p w seeds s h j.number y (taken_ready (rules w) s who j.number goes)

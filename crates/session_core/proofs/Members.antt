@@ -1,5 +1,5 @@
 -- Those that are present are parties of the session, where those that join are.
-use Rattle.std.proofs.Common.{◌≡◌, ◌∙◌, sym, subst, ℕ, ◌-◌, ◌^◌, ◌<◌, ◌≤◌, true, nat_eq, nat_le, ◌&&◌, inl, inr, min, bit_and, w32, arith}
+use Rattle.std.proofs.Common.{◌≡◌, ◌∙◌, sym, ap, subst, ℕ, ◌-◌, ◌^◌, ◌<◌, ◌≤◌, true, nat_eq, nat_le, ◌&&◌, inl, inr, min, bit_and, w32, arith}
 use Rattle.std.specs.Prelude.{⊤}
 use Rattle.std.specs.Int.{bit_at, bit_not}
 use Rattle.std.proofs.lemmas.Bool.{and_parts, and_from, eqb-true, eq-eqb}
@@ -7,10 +7,17 @@ use Rattle.std.proofs.lemmas.Nat.Bits.{bit_at_and, bit_at-lt}
 use Rattle.share_spec.specs.Sets.{has}
 use Rattle.proto_names.specs.Groups.{without_party}
 use Rattle.session_rules.specs.declared.call.Call.{Call}
+use Rattle.session_rules.specs.declared.call.Call.TheVariants as call
+use Rattle.session_rules.specs.declared.reply.Reply.{Reply}
+use Rattle.session_rules.specs.declared.deed.Deed.{Deed}
+use Rattle.session_rules.specs.declared.deed.Deed.TheVariants.{Nothing, Joins, Loses, Counts, Gives, Turns}
 use Rattle.session_rules.specs.declared.fixed.Fixed.{Fixed}
 use Rattle.session_rules.specs.States.{State, opening}
-use Rattle.session_rules.specs.Steps.{step}
-use Rattle.session_rules.proofs.Changes.{Change, joins, loses, counts, gives, turns, moves, Joins, step_goes}
+use Rattle.session_rules.specs.Deeds.{changed}
+use Rattle.session_rules.specs.Steps.{judge, step}
+use Rattle.session_rules.specs.Allowed.{Allows}
+use Rattle.session_rules.proofs.Judged.{judged}
+use Rattle.session_rules.proofs.Stepwise.{done_beside}
 use Rattle.session_rules.proofs.PartySets.{with_cases, has_nobody}
 use Rattle.session_core.specs.Sessions.{IsParty, ArePresent}
 
@@ -27,24 +34,32 @@ without_shrinks set p q h =
     only : (x y : ℕ) → x < 2 → min x y ≡ 1 → x ≡ 1
     only x y l e = omega arith
 
-present_then : (n caller : ℕ) (f : Fixed) (s t : State) → ArePresent n s → Change (IsParty n) caller f s t → ArePresent n t × ⊤
-present_then n caller f s t h (joins p among e) = (
-  rw e (λ q in_. elim (with_cases s.present p q among.0 in_) [
-    | inl same ↦ subst (λ (z : ℕ). z ≤ n) (sym same) among.1
-    | inr before ↦ h q before
-  ]),
-  tt,
-)
-present_then n caller f s t h (loses p there e) = (rw e (λ q in_. h q (without_shrinks s.present p q in_)), tt)
-present_then n caller f s t h (counts id p i found member alive unsent e) = (rw e h, tt)
-present_then n caller f s t h (gives c k done e) = (rw e h, tt)
-present_then n caller f s t h (turns c now may admitted unanswered begins e) = (rw e h, tt)
-present_then n caller f s t h (moves m next e) = (rw e h, tt)
+-- who joins is one of n parties
+abbrev pub JoinsOf : ℕ → Call → Type 0
+JoinsOf n (call.Join p) = IsParty n p
+JoinsOf n _ = ⊤
+
+present_then : (n : ℕ) (f : Fixed) (s : State) (caller : ℕ) (c : Call) (r : Reply) (d : Deed) → JoinsOf n c → Allows f s caller c r d → ArePresent n s → ArePresent n (changed d s)
+unfolding changed
+present_then n f s caller c r Nothing among a h = h
+present_then n f s caller c r (Joins p) among a h =
+    let its : IsParty n p = subst (JoinsOf n) a.call among in
+    λ q in_. elim (with_cases s.present p q its.0 in_) [
+      | inl same ↦ subst (λ (z : ℕ). z ≤ n) (sym same) its.1
+      | inr before ↦ h q before
+    ]
+present_then n f s caller c r (Loses p) among a h = λ q in_. h q (without_shrinks s.present p q in_)
+present_then n f s caller c r (Counts i p) among a h = h
+present_then n f s caller c r (Gives d k) among a h = h
+present_then n f s caller c r (Turns d now) among a h = h
 
 -- so they are after a call by which one of the parties joins, or none
-pub still_present : (n : ℕ) (f : Fixed) (s t : State) (caller : ℕ) (c : Call) → Joins (IsParty n) c → ArePresent n s → t ≡ (step f s caller c).1 → ArePresent n t
+pub still_present : (n : ℕ) (f : Fixed) (s t : State) (caller : ℕ) (c : Call) → JoinsOf n c → ArePresent n s → t ≡ (step f s caller c).1 → ArePresent n t
+unfolding step
 still_present n f s t caller c among h e =
-    subst (λ (z : State). ArePresent n z) (sym e) (step_goes f (IsParty n) caller (ArePresent n) (λ x y. ⊤) (λ x. tt) (λ x y z a b. tt) (present_then n caller f) s c among h).0
+    let v = judge f s caller c in
+    let now = present_then n f s caller c v.reply v.deed among (judged f s caller c) h in
+    subst (λ (z : ℕ). (p : ℕ) → has z p ≡ true → p ≤ n) (sym (ap (λ (z : State). z.present) e ∙ (done_beside f v.deed s).present)) now
 
 -- at first nobody is
 pub nobody_present : (n : ℕ) (f : Fixed) (s : State) → s ≡ opening f → ArePresent n s

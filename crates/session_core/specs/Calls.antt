@@ -1,6 +1,5 @@
 -- What the calls of a session come to.
 use Rattle.std.specs.Prelude.{◌≡◌, ℕ, ◌+◌, ◌*◌, ◌≤◌, List, [], ◌∷◌, ◌++◌, length, vec_capacity, Result, Err}
-use Rattle.ring_spec.specs.Pairs.{Cipher}
 use Rattle.param_set.specs.declared.params.Params.{Params}
 use Rattle.instance_table.specs.declared.share.Share.{Share}
 use Rattle.party_roll.specs.declared.roll.Roll.{Ghosts}
@@ -8,10 +7,11 @@ use Rattle.session_rules.specs.declared.call.Call.{Call}
 use Rattle.session_rules.specs.declared.call.Call.TheVariants as call
 use Rattle.session_rules.specs.declared.reply.Reply.{Reply}
 use Rattle.session_rules.specs.States.{State}
+use Rattle.session_rules.specs.Steps.{judge, step}
 use Rattle.session_rules.specs.Tasks.{entry}
-use Rattle.session_spec.specs.Settings.{Offer}
-use Rattle.session_spec.specs.Stores.{Store, empty}
-use Rattle.session_state.specs.Standings.{state, store, store_delivered, store_inputted, store_finished, IsUnchanged}
+use Rattle.session_spec.specs.Settings.{Offer, rules}
+use Rattle.session_spec.specs.Stores.{Store, Brought, empty, store_done}
+use Rattle.session_state.specs.Standings.{state, store, IsUnchanged}
 use Rattle.session_state.specs.Parts.{setting_by}
 use Rattle.session_core.specs.Sessions.{Known, known_by, said, spare}
 use Rattle.session_core.specs.declared.session.Session.{Session}
@@ -41,15 +41,11 @@ module _ {R : Type 0} {K : Ghosts R} where
   abbrev pub store_of : Session R K → Store
   store_of s = store s.standing
 
-  -- and the polynomials once a share, an input or an output is brought
-  abbrev pub shared_store : Session R K → Share → Store
-  shared_store s share = store_delivered s.standing share.id share.party share.rows
-
-  abbrev pub given_store : Session R K → ℕ → ℕ → Cipher → Store
-  given_store s circuit input ct = store_inputted s.standing circuit input ct
-
-  abbrev pub finished_store : Session R K → ℕ → ℕ → Cipher → Store
-  finished_store s caller circuit ct = store_finished s.standing caller circuit ct
+  -- and its polynomials once what the rules say to a call is done, with what the call brings
+  abbrev pub made_store : Session R K → ℕ → Call → Brought → Store
+  made_store s caller c b =
+      store_done (known s).setting (judge (rules (known s).setting) (state_of s) caller c).deed b
+      (step (rules (known s).setting) (state_of s) caller c).1.instances (store_of s)
 
   -- of what is known, the state and the polynomials as they stand
   abbrev pub At : {X : Type 0} → (Known → State → Store → X → Type 0) → Session R K → X → Type 0

@@ -78,7 +78,7 @@ impl<R: Roll> Session<R> {
         self.standing.is_ready(circuit)
     }
 
-    /// The instance with a number; none exactly where that many weren't issued.
+    /// The instance with a number; none exactly where it wasn't issued.
     #[tactic(auto, unfolding(proto_names::specs::Instances::instance))]
     pub fn instance(&self, id: u32) -> Option<&Instance>
         ensures { option_copied result ≡ instance (state_of self.now).instances id }

@@ -10,7 +10,8 @@ use session_state::Standing;
 /// A session of N parties, any T of whom act together, from the helper's side.
 ///
 /// It is made of a roll, a ring and circuits, and takes `max_calls` calls. Each call has a caller's number, which
-/// stands in the log and tells whose a circuit is that was taken.
+/// stands in the log and tells whose a circuit is that was taken. Where the log has no room for its entry, a call
+/// makes some, which takes memory; the comments of the calls say what else does.
 #[derive(Drop)]
 pub struct Session<R: Roll> {
     pub(crate) roll: R,

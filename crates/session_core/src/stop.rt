@@ -3,13 +3,13 @@ ghost use Rattle.std.specs.Prelude.{◌≡◌};
 use std::alloc::{AllocError, AllocFailed};
 use thiserror::Error;
 
-/// Why a call has no reply. It then has no entry in the log either, and nothing has changed.
+/// Why a call has no reply. It then has no entry in the log either, and nothing has changed but the room for entries.
 #[derive(Clone, Copy, Debug, PartialEq, Eq, Error)]
 pub enum Stop {
     /// The log has as many entries as the session may have.
     #[error("the session has made all its calls")]
     Spent,
-    /// There was no memory for the call.
+    /// The call was given up for want of memory.
     #[error("no memory for the call")]
     NoMemory,
 }

@@ -1,9 +1,10 @@
 ghost use Rattle.std.specs.Prelude.{◌≡◌, ◌≢◌, ◌↔◌, IfOk, OnOk, OnErr, Err};
 ghost use Rattle.session_rules.specs.declared.call.Call.TheVariants as call;
 ghost use Rattle.session_rules.specs.declared.reply.Reply.TheVariants as reply;
+ghost use Rattle.session_spec.specs.Stores.{cipher_brought};
 ghost use Rattle.session_core.specs.Sessions.{BringsOutputTo};
 ghost use Rattle.session_core.specs.Handing.{HandsJob};
-ghost use Rattle.session_core.specs.Calls.{about, known, state_of, store_of, finished_store, At, IsSpent, OnlyFor, OnlyWhere, Made, Stopped};
+ghost use Rattle.session_core.specs.Calls.{about, known, state_of, store_of, made_store, At, IsSpent, OnlyFor, OnlyWhere, Made, Stopped};
 ghost use Rattle.session_core.specs.declared.stop.Stop.TheVariants.{Spent};
 
 use crate::entries::plain_copy;
@@ -47,7 +48,7 @@ impl<R: Roll> Session<R> {
         requires ct { BringsOutputTo (known self.old) (state_of self.old) caller circuit ct }
         ensures about { about self.new ≡ about self.old }
         ensures made { IfOk result (Made self.old self.new caller (call.Finish circuit)) }
-        ensures store { OnOk result (store_of self.new ≡ finished_store self.old caller circuit ct) }
+        ensures store { OnOk result (store_of self.new ≡ made_store self.old caller (call.Finish circuit) (cipher_brought ct)) }
         ensures stopped { OnErr result (Stopped self.old self.new) }
         ensures spent { (result ≡ Err Spent) ↔ IsSpent self.old }
         ensures free { OnlyFor reply.Finished self.old result caller (call.Finish circuit) }

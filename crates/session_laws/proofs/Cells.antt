@@ -1,9 +1,7 @@
--- Lists of rows of which one entry is set, the rows of a store's inputs, and what a choice of replies keeps.
-use Rattle.std.proofs.Common.{◌≡◌, ◌≢◌, ◌∙◌, sym, ap, refl, ℕ, ◌<◌, Bool, true, false, List, [], length, get_or, set, Option, arith}
-use Rattle.std.specs.Prelude.{if◌then◌else◌}
+-- Lists of rows of which one entry is set, and the rows of a store's inputs.
+use Rattle.std.proofs.Common.{◌≡◌, ◌≢◌, ◌∙◌, sym, ap, refl, ℕ, ◌<◌, List, [], length, get_or, set, Option, arith}
 use Rattle.std.proofs.lemmas.List.{get_or-map, get_or-set_same, get_or-set_other, length-map}
 use Rattle.ring_spec.specs.Pairs.{Cipher}
-use Rattle.session_rules.specs.declared.reply.Reply.{Reply}
 use Rattle.session_rules.specs.States.{State}
 use Rattle.session_spec.specs.Settings.{Setting, no_offer, input_count}
 use Rattle.session_spec.specs.Stores.{Store}
@@ -36,9 +34,3 @@ pub row_number : (w : Setting) (s : State) (h : Store) (c : ℕ) → Matches w s
 row_number w s h c m l =
     let there : c < length h.inputs = omega (arith, inputs_number w s h m) in
     sym (get_or-map row_length h.inputs c [] 0 there) ∙ ap (λ (z : List ℕ). get_or z c 0) m.inputs ∙ get_or-map count_inputs w.offers c no_offer 0 l
-
--- ---- replies
-
-pub chosen : (G : Reply × State → Type 0) (b : Bool) (x y : Reply × State) → (b ≡ true → G x) → (b ≡ false → G y) → G (if b then x else y)
-chosen G true x y h k = h refl
-chosen G false x y h k = k refl

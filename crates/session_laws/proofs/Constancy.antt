@@ -1,17 +1,16 @@
 -- What is defined for a circuit or an instance is the same in every longer history.
-use Rattle.std.proofs.Common.{◌≡◌, ◌∙◌, sym, ap, subst, refl, ℕ, ◌-◌, ◌<◌, ◌&&◌, Bool, true, false, inl, inr, List, [], cond, length, get_or, slice_index_or, Some, None, arith}
+use Rattle.std.proofs.Common.{◌≡◌, ◌∙◌, sym, ap, subst, refl, ℕ, ◌-◌, ◌<◌, Bool, true, false, inl, inr, List, [], cond, length, get_or, Some, None, arith}
 use Rattle.std.specs.Prelude.{nat_eq}
-use Rattle.std.specs.List.{slice_get, list_all}
-use Rattle.std.proofs.lemmas.Bool.{and_parts}
+use Rattle.std.specs.List.{slice_get}
 use Rattle.std.proofs.lemmas.Option.{slice_get-get_or, get_or_from_slice_get, slice_get_within}
 use Rattle.ring_spec.specs.Pairs.{Key}
 use Rattle.proto_names.specs.Instances.{instance}
 use Rattle.proto_names.specs.declared.signature.Signature.{Signature}
 use Rattle.proto_names.specs.declared.sets.PartySet.{PartySet}
 use Rattle.proto_names.specs.declared.instance.Instance.{Instance}
-use Rattle.session_rules.specs.States.{State, circuit, is_idle, plan}
-use Rattle.session_rules.specs.Steps.{is_given_input, has_keys, ready}
+use Rattle.session_rules.specs.States.{State}
 use Rattle.session_rules.specs.Facts.{IsSameLater}
+use Rattle.session_rules.proofs.Readiness.{ready_is}
 use Rattle.session_rules.proofs.Keeps.{histories_keep}
 use Rattle.session_rules.proofs.Grounds.{histories_ground}
 use Rattle.session_rules.proofs.Runs.{later_ones_follow}
@@ -19,7 +18,7 @@ use Rattle.session_spec.specs.Settings.{Setting, rules, input_count}
 use Rattle.session_spec.specs.Shares.{share_rows}
 use Rattle.session_spec.specs.Outputs.{key_in, input_of, inputs_of, output_of, polys_of, share_of}
 use Rattle.session_laws.specs.Constancy.{HistoriesLeadOn, KeyStays, InputsStay, ReadyOnesStay, IssuedOnesStay}
-use Rattle.session_laws.proofs.Joins.{rules_whole}
+use Rattle.session_laws.proofs.Beginnings.{rules_whole}
 use Rattle.session_laws.proofs.Keys.{key_stays, given_keyed, keyed, no_key_needed, polys_stay}
 
 pub histories_lead_on : HistoriesLeadOn
@@ -39,20 +38,12 @@ inputs_stay w seeds s t c k y given =
 
 -- ---- a circuit that is ready
 
--- all its inputs are given
-ready_given : (w : Setting) (s : State) (c : ℕ) → ready (rules w) s c ≡ true → list_all is_given_input (slice_index_or s.given c []) ≡ true
-unfolding ready
-ready_given w s c e =
-    let given = list_all is_given_input (slice_index_or s.given c []) in
-    let both = and_parts (is_idle (circuit s.circuits c) && given) (has_keys s (plan (rules w) c)) e in
-    (and_parts (is_idle (circuit s.circuits c)) given both.0).1
-
 -- one without inputs has the same under every key
 no_inputs : (w : Setting) (seeds : List (List ℕ)) (key other : Key) (c : ℕ) → input_count w c ≡ 0 → inputs_of w seeds key c ≡ inputs_of w seeds other c
 no_inputs w seeds key other c e = rw e refl
 
 pub ready_ones_stay : ReadyOnesStay
-ready_ones_stay w seeds s t c y e = elim (given_keyed w s c y.grounded (ready_given w s c e)) [
+ready_ones_stay w seeds s t c y e = elim (given_keyed w s c y.grounded (ready_is (rules w) s c e).given) [
   | inl none ↦ record {
     inputs = no_inputs w seeds (key_in w seeds s.instances) (key_in w seeds t.instances) c none;
     output = no_key_needed w seeds (key_in w seeds s.instances) (key_in w seeds t.instances) c none;

@@ -1,10 +1,7 @@
 -- What the counting of a share makes of the instances, the circuits and the store.
-use Rattle.std.proofs.Common.{◌≡◌, ◌≢◌, ◌∙◌, sym, ap, subst, refl, ℕ, ◌-◌, ◌<◌, Bool, true, false, nat_eq, List, [], length, Contains, arith}
-use Rattle.std.specs.Prelude.{if◌then◌else◌}
-use Rattle.std.proofs.lemmas.Bool.{eqb-true, eqb-false}
+use Rattle.std.proofs.Common.{◌≡◌, ◌≢◌, ◌∙◌, sym, ap, subst, refl, ℕ, ◌-◌, ◌<◌, List, [], length, Contains, arith}
 use Rattle.std.proofs.lemmas.List.{get_or-set_same, get_or-set_other, length-map}
 use Rattle.ring_spec.specs.Pairs.{Key}
-use Rattle.share_spec.specs.Sets.{has}
 use Rattle.proto_names.specs.Groups.{with_party}
 use Rattle.proto_names.specs.Instances.{with_share, counted_at, after_share}
 use Rattle.proto_names.specs.declared.signature.Signature.{Signature}
@@ -14,9 +11,10 @@ use Rattle.instance_table.specs.Tables.{rows_sum, after_rows}
 use Rattle.param_set.specs.declared.params.Params.{Params}
 use Rattle.session_rules.specs.States.{State}
 use Rattle.session_rules.specs.Facts.{Kept, IsLater}
-use Rattle.session_rules.proofs.Contained.{contains_map_from}
 use Rattle.session_rules.proofs.Marks.{numbered_at, one_number, opened_lives}
 use Rattle.session_rules.proofs.PartySets.{has_party}
+use Rattle.session_rules.proofs.Keeps.{Waits}
+use Rattle.session_rules.proofs.Within.{CountedFrom, itself, another, counted_from}
 use Rattle.session_spec.specs.Settings.{Setting, rules}
 use Rattle.session_spec.specs.Shares.{sum_rows, share_rows}
 use Rattle.session_spec.specs.Outputs.{key_in, polys_of, share_of, sums_of}
@@ -26,15 +24,7 @@ use Rattle.session_laws.proofs.Keys.{keyed, polys_stay}
 use Rattle.session_laws.proofs.Totals.{more_sums}
 use Rattle.session_laws.proofs.Holding.{Told, Summed, Holds, holds_from, setting_modulus, sums_stay}
 
--- ---- one share
-
--- an instance then: the one of the share with it, or another one as it was
-data Counted (is : List Instance) (i : Instance) (p : ℕ) (j : Instance) : Type 0 where
-  itself : with_share p i ≡ j → Counted is i p j
-  another : Contains is j → j.id ≢ i.id → Counted is i p j
-
-module _ (p : Params) (w : Setting) (seeds : List (List ℕ)) (s : State) (h : Store) (i : Instance) (party : ℕ) (rows : List (List ℕ)) (y : Stands p w seeds s h)
-    (issued : Contains s.instances i) (opened_still : i.stage ≡ Opened) (member : has i.set.bits party ≡ true) (unsent : has i.sent.bits party ≡ false)
+module _ (p : Params) (w : Setting) (seeds : List (List ℕ)) (s : State) (h : Store) (i : Instance) (party : ℕ) (rows : List (List ℕ)) (y : Stands p w seeds s h) (its : Waits s i party)
     (honest : rows ≡ share_of w seeds (key_in w seeds s.instances) i party) where
   abbrev instances : List Instance
   instances = after_share i.id party s.instances
@@ -48,17 +38,14 @@ module _ (p : Params) (w : Setting) (seeds : List (List ℕ)) (s : State) (h : S
   abbrev itself_then : Instance
   itself_then = with_share party i
 
-  counted_of : (j : Instance) → Contains instances j → Counted s.instances i party j
-  unfolding after_share
-  counted_of j m =
-      let c = contains_map_from (counted_at i.id party) s.instances j m in
-      at c.source c.within (nat_eq c.source.id i.id) refl c.same
-    where
-      at : (a : Instance) → Contains s.instances a → (b : Bool) → nat_eq a.id i.id ≡ b → (if b then with_share party a else a) ≡ j → Counted s.instances i party j
-      at a n true e same =
-          let it : a ≡ i = one_number s.instances a i y.kept.numbered n issued (eqb-true a.id i.id e) in
-          itself (sym (ap (with_share party) it) ∙ same)
-      at a n false e same = another (subst (λ (z : Instance). Contains s.instances z) same n) (λ ids. eqb-false a.id i.id e (ap (λ (z : Instance). z.id) same ∙ ids))
+  issued : Contains s.instances i
+  issued = its.within
+
+  opened_still : i.stage ≡ Opened
+  opened_still = its.opened
+
+  counted_of : (j : Instance) → Contains instances j → CountedFrom s.instances i party j
+  counted_of j m = counted_from s.instances i j party (λ a n e. one_number s.instances a i y.kept.numbered n issued e) m
 
   pub instances_number : length instances ≡ length s.instances
   unfolding after_share
@@ -93,11 +80,11 @@ module _ (p : Params) (w : Setting) (seeds : List (List ℕ)) (s : State) (h : S
   unfolding with_rows after_rows
   added_sums =
       let q = w.numbers.q in let n = w.numbers.n in
-      let range = has_party i.set.bits party member in
+      let range = has_party i.set.bits party its.member in
       get_or-set_same h.sums (i.id - 1) (rows_sum q n (held_sums h i.id) rows) [] place
       ∙ ap (λ (z : List (List ℕ)). rows_sum q n z rows) was_sums
       ∙ ap (rows_sum q n (sum_rows w seeds i.signature i.id i.set.bits polys i.sent.bits)) share_is
-      ∙ more_sums w seeds i.signature i.id i.set.bits polys i.sent.bits party (setting_modulus p w y.setting) range.0 range.1 unsent
+      ∙ more_sums w seeds i.signature i.id i.set.bits polys i.sent.bits party (setting_modulus p w y.setting) range.0 range.1 its.unsent
 
   -- and those of another one are what they were
   other_sums : (j : Instance) → Contains s.instances j → j.id ≢ i.id → held_sums added j.id ≡ held_sums h j.id
@@ -128,8 +115,8 @@ module _ (p : Params) (w : Setting) (seeds : List (List ℕ)) (s : State) (h : S
     unfolding with_rows
     counted_told j m alive = elim (counted_of j (subst (λ (z : List Instance). Contains z j) same m)) [
       | itself it ↦
-          let ids : j.id ≡ i.id = ap (λ (z : Instance). z.id) (sym it) ∙ share_kept.0 in
-          let signs : j.signature ≡ i.signature = ap (λ (z : Instance). z.signature) (sym it) ∙ share_kept.1 in
+          let ids : j.id ≡ i.id = ap (λ (z : Instance). z.id) it ∙ share_kept.0 in
+          let signs : j.signature ≡ i.signature = ap (λ (z : Instance). z.signature) it ∙ share_kept.1 in
           ap (λ (z : ℕ). held_polys h z) ids ∙ held_holds.told i issued (opened_lives i opened_still) ∙ its_polys ∙ ap (λ (z : Signature). polys_of w seeds now z) (sym signs)
       | another n other ↦ held_holds.told j n alive ∙ polys_stay w seeds s t j y.kept (keyed w s y.grounded) then_ later n alive
     ]
@@ -137,8 +124,8 @@ module _ (p : Params) (w : Setting) (seeds : List (List ℕ)) (s : State) (h : S
     pub counted_sums : Summed w seeds now added t.instances
     counted_sums j m alive = elim (counted_of j (subst (λ (z : List Instance). Contains z j) same m)) [
       | itself it ↦
-          let ids : j.id ≡ i.id = ap (λ (z : Instance). z.id) (sym it) ∙ share_kept.0 in
-          ap (λ (z : ℕ). held_sums added z) ids ∙ added_sums ∙ share_sums now its_polys ∙ ap (sums_of w seeds now) it
+          let ids : j.id ≡ i.id = ap (λ (z : Instance). z.id) it ∙ share_kept.0 in
+          ap (λ (z : ℕ). held_sums added z) ids ∙ added_sums ∙ share_sums now its_polys ∙ ap (sums_of w seeds now) (sym it)
       | another n other ↦
           other_sums j n other ∙ held_holds.sums j n alive
           ∙ sums_stay w seeds key now j (polys_stay w seeds s t j y.kept (keyed w s y.grounded) then_ later n alive)

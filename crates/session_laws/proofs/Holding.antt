@@ -1,6 +1,7 @@
 -- What an honest store holds, instance by instance of a list with numbers, and that it does so once instances
 -- are issued.
-use Rattle.std.proofs.Common.{◌≡◌, ◌∙◌, sym, ap, subst, refl, ℕ, ◌+◌, ◌-◌, ◌<◌, Bool, true, false, List, [], ◌∷◌, ◌++◌, length, map, drop, get_or, Contains, Option, Some, arith}
+use Rattle.std.proofs.Common.{◌≡◌, ◌∙◌, sym, ap, subst, refl, ℕ, ◌+◌, ◌-◌, ◌<◌, Bool, true, false, List, [], ◌∷◌, ◌++◌, inr, length, map, drop, get_or, Contains, Option, Some, arith}
+use Rattle.std.specs.Prelude.{⊤}
 use Rattle.std.proofs.lemmas.Bool.{both_ways}
 use Rattle.std.proofs.lemmas.List.{get_or-map, get_or-drop, get_or_append_left, get_or-append_right, length-drop}
 use Rattle.param_set.specs.declared.params.Params.{Params}
@@ -15,19 +16,17 @@ use Rattle.session_rules.specs.declared.state.CircuitState.TheVariants.{Evaluate
 use Rattle.session_rules.specs.States.{State, circuit, is_given}
 use Rattle.session_rules.specs.Issues.{issue}
 use Rattle.session_rules.specs.Facts.{Kept, IsLater, IsLive, Numbered, is_settled}
-use Rattle.session_rules.proofs.Changes.{issue_goes}
-use Rattle.session_rules.proofs.Marks.{instance_within, numbered_at}
-use Rattle.session_rules.proofs.Later.{later_reflexive, later_transitive}
-use Rattle.session_rules.proofs.Keeps.{Anybody, change_next}
+use Rattle.session_rules.proofs.Stepwise.{issue_beside}
+use Rattle.session_rules.proofs.Marks.{instance_within, instance_id, found, numbered_at}
+use Rattle.session_rules.proofs.Keeps.{issue_next}
+use Rattle.session_rules.proofs.Issued.{IsNew, stayed, lapsed, came, Stems, issue_stems}
 use Rattle.session_spec.specs.Settings.{Setting, rules, plain_at, IsSetting}
 use Rattle.session_spec.specs.Shares.{sum_rows}
 use Rattle.session_spec.specs.Outputs.{key_in, input_of, output_of, polys_of, sums_of}
 use Rattle.session_spec.specs.Stores.{Store, cipher_or, held_polys, held_sums, held_input, held_output, held_answer, polys_by, polys_told, zero_sums, grown}
 use Rattle.session_spec.specs.Honesty.{IsHonest}
 use Rattle.session_laws.proofs.Plans.{settled_begun, circuit_within, circuits_number}
-use Rattle.session_rules.proofs.Marks.{instance_at, instance_number}
 use Rattle.session_laws.proofs.Keys.{Keyed, key_stays, output_stays, polys_stay}
-use Rattle.session_laws.proofs.Issuing.{IsUnsent, old, gone, new, Roots, issue_roots}
 use Rattle.session_laws.proofs.Totals.{nobody_sums}
 
 -- ---- by instances in place of numbers
@@ -47,8 +46,8 @@ pub record Holds (w : Setting) (seeds : List (List ℕ)) (s : State) (h : Store)
 
 pub holds_from : (w : Setting) (seeds : List (List ℕ)) (s : State) (h : Store) → Numbered s.instances → IsHonest w seeds s h → Holds w seeds s h
 holds_from w seeds s h n y = record {
-  told = λ i m alive. y.told i.id i (instance_at s.instances i n m) alive;
-  sums = λ i m alive. y.sums i.id i (instance_at s.instances i n m) alive;
+  told = λ i m alive. y.told i.id i (found s.instances i n m) alive;
+  sums = λ i m alive. y.sums i.id i (found s.instances i n m) alive;
   inputs = y.inputs;
   outputs = y.outputs;
   answers = y.answers;
@@ -56,10 +55,10 @@ holds_from w seeds s h n y = record {
 
 pub honest_from : (w : Setting) (seeds : List (List ℕ)) (s : State) (h : Store) → Numbered s.instances → Holds w seeds s h → IsHonest w seeds s h
 honest_from w seeds s h n y = record {
-  told = λ id i found alive.
-      subst (λ (z : ℕ). held_polys h z ≡ polys_of w seeds (key_in w seeds s.instances) i.signature) (instance_number s.instances id i n found) (y.told i (instance_within s.instances id i found) alive);
-  sums = λ id i found alive.
-      subst (λ (z : ℕ). held_sums h z ≡ sums_of w seeds (key_in w seeds s.instances) i) (instance_number s.instances id i n found) (y.sums i (instance_within s.instances id i found) alive);
+  told = λ id i found_ alive.
+      subst (λ (z : ℕ). held_polys h z ≡ polys_of w seeds (key_in w seeds s.instances) i.signature) (instance_id s.instances id i n found_) (y.told i (instance_within s.instances id i found_) alive);
+  sums = λ id i found_ alive.
+      subst (λ (z : ℕ). held_sums h z ≡ sums_of w seeds (key_in w seeds s.instances) i) (instance_id s.instances id i n found_) (y.sums i (instance_within s.instances id i found_) alive);
   inputs = y.inputs;
   outputs = y.outputs;
   answers = y.answers;
@@ -104,9 +103,12 @@ above xs g i is d n m l =
     ∙ get_or-map g rest (i.id - 1 - many) i d within
     ∙ ap g (get_or-drop many is (i.id - 1 - many) i ∙ ap (λ (z : ℕ). get_or is z i) place ∙ m.2)
 
+abbrev Anything : Signature → Type 0
+Anything σ = ⊤
+
 module _ (p : Params) (w : Setting) (seeds : List (List ℕ)) (s t : State) (h : Store) (setting : IsSetting p w) (kept : Kept (rules w) s) (y : Keyed w s)
     (told : length h.told ≡ length s.instances) (sums : length h.sums ≡ length s.instances)
-    (then_ : Kept (rules w) t) (later : IsLater s t) (roots : Roots s.instances t.instances) (given : t.given ≡ s.given) (circuits : t.circuits ≡ s.circuits) (holds : Holds w seeds s h) where
+    (then_ : Kept (rules w) t) (later : IsLater s t) (stems : Stems Anything s t.instances) (given : t.given ≡ s.given) (circuits : t.circuits ≡ s.circuits) (holds : Holds w seeds s h) where
   abbrev before : Key
   before = key_in w seeds s.instances
 
@@ -117,7 +119,7 @@ module _ (p : Params) (w : Setting) (seeds : List (List ℕ)) (s t : State) (h :
   larger = grown w t.instances h
 
   -- what is told of a new one comes from the output, which is there
-  new_told : (i : Instance) → Contains t.instances i → IsUnsent (length s.instances) i → (σ : Signature) → i.signature ≡ σ → polys_by h σ ≡ polys_of w seeds now σ
+  new_told : (i : Instance) → Contains t.instances i → IsNew Anything s i → (σ : Signature) → i.signature ≡ σ → polys_by h σ ≡ polys_of w seeds now σ
   unfolding polys_by polys_of
   new_told i m u Pk e = refl
   new_told i m u Rlk1 e = refl
@@ -133,26 +135,26 @@ module _ (p : Params) (w : Setting) (seeds : List (List ℕ)) (s t : State) (h :
 
   grown_told : Told w seeds now larger t.instances
   unfolding grown
-  grown_told i m alive = elim (roots i m) [
-    | gone void ↦ absurd (both_ways (is_void i.stage) alive void)
-    | old there ↦
+  grown_told i m alive = elim (stems i m) [
+    | lapsed void ↦ absurd (both_ways (is_void i.stage) alive void)
+    | stayed there ↦
         below h.told (map (polys_told h) (drop (length h.told) t.instances)) i s.instances [] kept.numbered there told
         ∙ holds.told i there alive ∙ polys_stay w seeds s t i kept y then_ later there alive
-    | new u ↦
+    | came u ↦
         let l = u.id in
         above h.told (polys_told h) i t.instances [] then_.numbered m (omega arith) ∙ new_told i m u i.signature refl
   ]
 
   grown_sums : Summed w seeds now larger t.instances
   unfolding grown
-  grown_sums i m alive = elim (roots i m) [
-    | gone void ↦ absurd (both_ways (is_void i.stage) alive void)
-    | old there ↦
+  grown_sums i m alive = elim (stems i m) [
+    | lapsed void ↦ absurd (both_ways (is_void i.stage) alive void)
+    | stayed there ↦
         below h.sums (map (zero_sums w) (drop (length h.sums) t.instances)) i s.instances [] kept.numbered there sums
         ∙ holds.sums i there alive ∙ sums_stay w seeds before now i (polys_stay w seeds s t i kept y then_ later there alive)
-    | new u ↦
+    | came u ↦
         let l = u.id in
-        above h.sums (zero_sums w) i t.instances [] then_.numbered m (omega arith) ∙ fresh_sums w seeds now i (setting_modulus p w setting) u.sent
+        above h.sums (zero_sums w) i t.instances [] then_.numbered m (omega arith) ∙ fresh_sums w seeds now i (setting_modulus p w setting) u.unsent
   ]
 
   -- nothing else changes
@@ -172,25 +174,10 @@ module _ (p : Params) (w : Setting) (seeds : List (List ℕ)) (s t : State) (h :
 
 -- ---- so it is once instances are issued
 
-issue_given : (w : Setting) (s : State) → (issue (rules w) s).given ≡ s.given
-unfolding issue
-issue_given w s = refl
-
-issue_circuits : (w : Setting) (s : State) → (issue (rules w) s).circuits ≡ s.circuits
-unfolding issue
-issue_circuits w s = refl
-
-pub issue_next : (w : Setting) (s : State) → Kept (rules w) s → Kept (rules w) (issue (rules w) s) × IsLater s (issue (rules w) s)
-issue_next w s k = issue_goes (rules w) Anybody 0 (Kept (rules w)) IsLater later_reflexive later_transitive (change_next 0 (rules w)) s k
-
 pub issue_holds : (p : Params) (w : Setting) (seeds : List (List ℕ)) (s : State) (h : Store) → IsSetting p w → Kept (rules w) s → Keyed w s
     → length h.told ≡ length s.instances → length h.sums ≡ length s.instances → Holds w seeds s h → Holds w seeds (issue (rules w) s) (grown w (issue (rules w) s).instances h)
 issue_holds p w seeds s h setting k y told sums holds =
     let t = issue (rules w) s in
-    let goes = issue_next w s k in
-    grown_holds p w seeds s t h setting k y told sums goes.0 goes.1 (issue_roots (rules w) s) (issue_given w s) (issue_circuits w s) holds
-
--- and where none is
-pub same_holds : (p : Params) (w : Setting) (seeds : List (List ℕ)) (s : State) (h : Store) → IsSetting p w → Kept (rules w) s → Keyed w s
-    → length h.told ≡ length s.instances → length h.sums ≡ length s.instances → Holds w seeds s h → Holds w seeds s (grown w s.instances h)
-same_holds p w seeds s h setting k y told sums holds = grown_holds p w seeds s s h setting k y told sums k (later_reflexive s) (λ i m. old m) refl refl holds
+    let goes = issue_next (rules w) s k in
+    let beside = issue_beside (rules w) s in
+    grown_holds p w seeds s t h setting k y told sums goes.0 goes.1 (issue_stems Anything (rules w) s k (λ σ a b e. tt) (inr tt)) beside.given beside.circuits holds

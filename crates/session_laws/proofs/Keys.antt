@@ -14,12 +14,13 @@ use Rattle.session_rules.specs.Steps.{is_given_input}
 use Rattle.session_rules.specs.Facts.{Kept, IsLater, IsLive, IsSameLater, is_begun}
 use Rattle.session_rules.specs.Grounds.{Grounded}
 use Rattle.session_rules.proofs.Contained.{find_some, find_none, none_from_find}
+use Rattle.session_rules.proofs.Readiness.{all_at}
 use Rattle.session_rules.proofs.Marks.{IsDone, done_is, done_from, one_number, complete_lives, live_cases}
 use Rattle.session_spec.specs.Settings.{Setting, rules, input_count}
 use Rattle.session_spec.specs.Shares.{key_of}
 use Rattle.session_spec.specs.Outputs.{key_instance, key_from, key_in, output_of, polys_of}
 use Rattle.session_spec.specs.Laws.{OutputsStay}
-use Rattle.session_laws.proofs.Plans.{plan_inputs, all_given}
+use Rattle.session_laws.proofs.Plans.{plan_inputs}
 
 -- ---- the instance of the key
 
@@ -96,7 +97,7 @@ given_keyed w s c g all = elim (cases_eq (input_count w c) 0) [
   | inl none ↦ inl none
   | inr some ↦
       let number : length (slice_index_or s.given c []) ≡ input_count w c = g.rows c ∙ plan_inputs w c in
-      inr (g.key c 0 (all_given (slice_index_or s.given c []) 0 all (omega arith)))
+      inr (g.key c 0 (all_at (slice_index_or s.given c []) 0 all (omega arith)))
 ]
 
 pub keyed : (w : Setting) (s : State) → Grounded (rules w) s → Keyed w s

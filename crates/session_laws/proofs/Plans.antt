@@ -1,7 +1,6 @@
--- What the rules of a session look at, circuit by circuit, and the instance with a number.
-use Rattle.std.proofs.Common.{◌≡◌, ◌∙◌, sym, ap, refl, ℕ, ◌<◌, ◌≤◌, Bool, true, false, inl, inr, List, [], ◌∷◌, length, map, get_or, zero, suc, arith}
-use Rattle.std.specs.List.{list_all}
-use Rattle.std.proofs.lemmas.Bool.{cases_lt, and_parts}
+-- What the rules of a session look at, circuit by circuit.
+use Rattle.std.proofs.Common.{◌≡◌, ◌∙◌, sym, ap, refl, ℕ, ◌<◌, ◌≤◌, true, inl, inr, List, [], length, map, get_or, arith}
+use Rattle.std.proofs.lemmas.Bool.{cases_lt}
 use Rattle.std.proofs.lemmas.List.{get_or-map, get_or_past, length-map}
 use Rattle.circuit_form.specs.declared.node.Node.{Node}
 use Rattle.circuit_form.specs.Circuits.{owners}
@@ -10,7 +9,6 @@ use Rattle.session_rules.specs.declared.fixed.Plan.{Plan}
 use Rattle.session_rules.specs.declared.state.CircuitState.{CircuitState}
 use Rattle.session_rules.specs.declared.state.CircuitState.TheVariants.{Refused, Idle, Taken, Evaluated, Answered}
 use Rattle.session_rules.specs.States.{State, plan, no_plan, circuit}
-use Rattle.session_rules.specs.Steps.{is_given_input}
 use Rattle.session_rules.specs.Fixing.{plan_of, fixed_from}
 use Rattle.session_rules.specs.Facts.{Kept, is_begun, is_settled}
 use Rattle.session_spec.specs.Settings.{Setting, nodes_of, rules, gadget_rows, no_offer, nodes_at, input_count}
@@ -81,9 +79,3 @@ circuit_within circuits c now e other = elim (cases_lt c (length circuits)) [
 
 pub circuits_number : (w : Setting) (s : State) → Kept (rules w) s → length s.circuits ≡ length w.offers
 circuits_number w s k = k.circuits ∙ rules_number w
-
--- where all inputs are given, each is
-pub all_given : (row : List Bool) (k : ℕ) → list_all is_given_input row ≡ true → k < length row → get_or row k false ≡ true
-all_given [] k e l = absurd (omega arith)
-all_given (b ∷ bs) zero e l = (and_parts b (list_all is_given_input bs) e).0
-all_given (b ∷ bs) (suc k) e l = all_given bs k (and_parts b (list_all is_given_input bs) e).1 (omega arith)

@@ -1,6 +1,6 @@
 //! What holds of honest stores, call by call: each function states a law, and does nothing.
 ghost use Rattle.session_spec.specs.Laws.{AnswersArePlain, OutputsStay};
-ghost use Rattle.session_spec.specs.Laws.{OpeningIsHonest, JoinsKeepHonest, SharesKeepHonest, InputsKeepHonest, TakesKeepHonest, OutputsKeepHonest, HeldKeysAreKeys, ReadyOnesHaveInputs};
+ghost use Rattle.session_spec.specs.Laws.{OpeningIsHonest, CallsKeepHonest, SharesAreBrought, InputsAreBrought, OutputsAreBrought, HeldKeysAreKeys, ReadyOnesHaveInputs};
 ghost use Rattle.session_laws.specs.Beginnings.{OpeningStands};
 ghost use Rattle.session_laws.specs.Constancy.{HistoriesLeadOn, InputsStay, IssuedOnesStay, KeyStays, ReadyOnesStay};
 ghost use Rattle.session_laws.specs.Orders.{OrdersAreOne, RowsAreTotals};
@@ -33,14 +33,13 @@ pub fn orders()
     ensures totals { RowsAreTotals }
 {}
 
-/// A party that joins, a share, an input and an output as honest parties bring them, and a circuit that is
-/// taken, keep the store honest. For shares this rests on the law that complete decryptions give plain values.
+/// Any call keeps the store honest where what is brought to its deed is; and a share, an input and an output
+/// as honest parties bring them are so. It rests on the law that complete decryptions give plain values.
 pub fn calls()
-    ensures joins { JoinsKeepHonest }
-    ensures shares { AnswersArePlain → SharesKeepHonest }
-    ensures inputs { InputsKeepHonest }
-    ensures takes { TakesKeepHonest }
-    ensures outputs { OutputsKeepHonest }
+    ensures honest { AnswersArePlain → CallsKeepHonest }
+    ensures shares { SharesAreBrought }
+    ensures inputs { InputsAreBrought }
+    ensures outputs { OutputsAreBrought }
 {}
 
 /// The key that is handed out is the public key, and a circuit that is ready has its inputs.

@@ -3,6 +3,7 @@ use Rattle.std.specs.Prelude.{⊤}
 use lib.Count.{count_leading_zeros}
 use Rattle.session_rules.specs.States as states
 use Rattle.session_rules.specs.Issues as issues
+use Rattle.session_rules.specs.Deeds as deeds
 use Rattle.session_rules.specs.Steps as steps
 use Rattle.session_rules.specs.Histories as histories
 use Rattle.session_rules.specs.Tasks as tasks
@@ -22,12 +23,12 @@ unfolding
     states.has_live states.has_done states.opening
     issues.keys issues.enough issues.condition issues.may_issue issues.may_decrypt issues.next_decryption
     issues.next_signature issues.outdated issues.rule_1 issues.least_present issues.issued_as issues.rule_2
-    issues.next_move issues.instances_after issues.moves_in issues.issued_in issues.most_moves issues.moves
+    issues.next_move issues.instances_after issues.moved issues.moves_in issues.issued_in issues.most_moves issues.moves
     issues.issue
-    steps.join steps.falls steps.after_loss steps.lose steps.lacks_input steps.owed_of steps.owed_inputs
-    steps.pending steps.told steps.brief steps.answered_by steps.counted steps.accepted steps.by_stage
-    steps.deliver steps.is_input steps.input steps.has_keys steps.ready steps.next_ready steps.take steps.finish
-    steps.give_back steps.step
+    deeds.falls deeds.after_loss deeds.answered_by deeds.changed deeds.done
+    steps.join steps.lose steps.lacks_input steps.owed_of steps.owed_inputs steps.pending steps.told steps.brief
+    steps.counted steps.accepted steps.by_stage steps.deliver steps.is_input steps.input steps.has_keys steps.ready
+    steps.next_ready steps.take steps.finish steps.give_back steps.judge steps.step
     histories.after histories.replayed
     tasks.dropped tasks.at_call tasks.owing tasks.delivering tasks.evaluating tasks.returning tasks.exhausting
     tasks.next_call tasks.after_reply tasks.left tasks.run

@@ -15,7 +15,7 @@ use Rattle.session_rules.specs.declared.state.CircuitState.TheVariants.{Refused,
 use Rattle.session_rules.specs.declared.fixed.Fixed.{Fixed}
 use Rattle.session_rules.specs.States.{State, seen, opening}
 use Rattle.session_rules.specs.Histories.{state_after}
-use Rattle.session_rules.specs.Facts.{JoinsParty, JoinParties, Refuses, IsLive, IsSound, Decrypts, HasFirst, Numbered, OneLives, Kept, IsSameLater, is_settled, is_begun, IsLater, IsFirstAt, IsAtRest, TakesPart, NoneBy, answered}
+use Rattle.session_rules.specs.Facts.{JoinsParty, JoinParties, IsLive, IsSound, Decrypts, HasFirst, Numbered, OneLives, Kept, IsSameLater, is_settled, is_begun, IsLater, IsFirstAt, IsAtRest, TakesPart, NoneBy, answered}
 use Rattle.session_rules.proofs.Keeps.{state_kept}
 use Rattle.session_rules.proofs.Runs.{later_ones_follow}
 use Rattle.session_rules.proofs.PartySets.{with_keeps}
@@ -50,16 +50,6 @@ parties_join = (omega arith, (tt, tt))
 
 pub one_is_none : JoinParties (joins 3 ∷ joins 33 ∷ []) → ⊥
 one_is_none h = absurd (omega (arith, h.1.0))
-
--- the state may change with the reply Joined alone
-pub joined : Refuses (seen 0 [] [] []) (reply.Joined, seen 1 [] [] [])
-joined e = absurd (true≢false e)
-
-pub already : Refuses (seen 1 [] [] []) (reply.Already, seen 1 [] [] [])
-already e = refl
-
-pub already_changed : Refuses (seen 0 [] [] []) (reply.Already, seen 1 [] [] []) → ⊥
-already_changed h = let same : 1 ≡ 0 = ap (λ (s : State). s.present) (h refl) in absurd (omega (arith, same))
 
 pub answers : answered adding (opening adding) 4 (call.Join 1) ≡ asked 4 (call.Join 1) reply.Joined
 unfolding rules

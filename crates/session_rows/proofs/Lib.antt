@@ -7,5 +7,8 @@ pub mod Losses
 pub mod Lanes
 pub mod Refusals
 pub mod Facts
+pub mod Completions
 pub mod Following
 pub mod Grounds
+pub mod Verdicts
+pub mod Allowed

@@ -1,8 +1,8 @@
 -- A circuit that is begun has its inputs and its keys, in every state that calls lead to.
 use Rattle.std.proofs.Common.{◌≡◌, ◌∙◌, sym, ap, subst, refl, ℕ, zero, suc, Bool, true, false, cond, ◌⊎◌, inl, inr, List, [], ◌∷◌, ◌++◌, length, map, get_or, set, slice_index_or, Contains, Some, arith, length-set}
-use Rattle.std.specs.Prelude.{nat_eq, not, replicate, ◌||◌}
+use Rattle.std.specs.Prelude.{nat_eq, replicate}
 use Rattle.std.specs.List.{list_all}
-use Rattle.std.proofs.lemmas.Bool.{both_ways, cases_eq, cases_lt, and_parts, and_from}
+use Rattle.std.proofs.lemmas.Bool.{both_ways, cases_Bool, cases_eq, cases_lt, and_parts, and_from}
 use Rattle.std.proofs.lemmas.List.{get_or-map, get_or-set_same, get_or-set_other, get_or_past, set_past, length-map, length-replicate, get_or-replicate}
 use Rattle.std.proofs.lemmas.List.Elements.{Contains-push_cases}
 use Rattle.proto_names.specs.Groups.{with_party, without_party}
@@ -12,47 +12,32 @@ use Rattle.proto_names.specs.declared.signature.Signature.TheVariants.{Pk, Rlk2,
 use Rattle.proto_names.specs.declared.instance.Instance.{Instance}
 use Rattle.session_rules.specs.declared.call.Call.{Call}
 use Rattle.session_rules.specs.declared.call.Entry.{Entry}
+use Rattle.session_rules.specs.declared.reply.Reply.{Reply}
+use Rattle.session_rules.specs.declared.deed.Deed.{Deed}
+use Rattle.session_rules.specs.declared.deed.Deed.TheVariants.{Nothing, Joins, Loses, Counts, Gives, Turns}
 use Rattle.session_rules.specs.declared.state.CircuitState.{CircuitState}
-use Rattle.session_rules.specs.declared.state.CircuitState.TheVariants.{Evaluated, Answered}
+use Rattle.session_rules.specs.declared.state.CircuitState.TheVariants.{Refused, Idle, Taken, Evaluated, Answered}
 use Rattle.session_rules.specs.declared.moves.Move.{Move}
-use Rattle.session_rules.specs.declared.fixed.Plan.{Plan}
 use Rattle.session_rules.specs.declared.fixed.Fixed.{Fixed}
 use Rattle.session_rules.specs.States.{State, circuit, plan, no_plan, is_refused, is_given, has_done, opening, none_given, opening_of}
-use Rattle.session_rules.specs.Issues.{keys as needed_keys, instances_after, least_present}
-use Rattle.session_rules.specs.Steps.{after_loss, answered_by, with_input, is_given_input, has_turn, has_keys, ready, with_circuit, step}
+use Rattle.session_rules.specs.Issues.{keys as needed_keys, next_move, instances_after, moved, least_present}
+use Rattle.session_rules.specs.Deeds.{after_loss, is_last, answered_by, with_input, changed, done}
+use Rattle.session_rules.specs.Steps.{is_given_input, has_keys, ready, judge, step}
 use Rattle.session_rules.specs.Histories.{after, state_after}
-use Rattle.session_rules.specs.Facts.{is_begun, Kept, IsLater}
+use Rattle.session_rules.specs.Facts.{is_begun, Kept, IsLater, RefusedOnesBeganSo}
 use Rattle.session_rules.specs.Grounds.{CallsGround, HistoriesGround, Grounded, IsWhole}
-use Rattle.session_rules.proofs.Changes.{Change, joins, loses, counts, gives, turns, moves, MayTurn, MayBegin, after_count, step_goes}
+use Rattle.session_rules.specs.Allowed.{MayTurn, Allows}
+use Rattle.session_rules.proofs.Stepwise.{done_keeps}
+use Rattle.session_rules.proofs.Judged.{judged}
 use Rattle.session_rules.proofs.Contained.{contains_nil}
-use Rattle.session_rules.proofs.Marks.{numbered_at, instance_within}
+use Rattle.session_rules.proofs.Marks.{numbered_at}
 use Rattle.session_rules.proofs.MoveKinds.{MoveIs, gives_up, second, other, move_is, IsNeeded, key, decryption}
-use Rattle.session_rules.proofs.Shares.{lacking_opened, decides_dec, answered_other, answered_its}
-use Rattle.session_rules.proofs.Later.{circuit_set, later_reflexive, later_transitive}
-use Rattle.session_rules.proofs.Keeps.{Anybody, anybody_joins, change_next, open_is, opening_kept}
+use Rattle.session_rules.proofs.Readiness.{keys_from, ready_is, found_ready}
+use Rattle.session_rules.proofs.Shares.{decides_dec, answered_other, answered_its}
+use Rattle.session_rules.proofs.Later.{circuit_set}
+use Rattle.session_rules.proofs.Keeps.{Waits, waits, IsTurned, turned, deed_next, move_next, after_next, opening_kept}
 use Rattle.session_rules.proofs.Deliveries.{keys_stay}
 use Rattle.session_rules.proofs.Within.{Was, was_or_new}
-
--- ---- the keys of a circuit
-
--- where each that passes one test passes another
-pub all_from : {X : Type 0} (p q : X → Bool) (xs : List X) → ((x : X) → p x ≡ true → q x ≡ true) → list_all p xs ≡ true → list_all q xs ≡ true
-all_from p q [] h e = refl
-all_from p q (x ∷ xs) h e = let both = and_parts (p x) (list_all p xs) e in and_from (q x) (list_all q xs) (h x both.0) (all_from p q xs h both.1)
-
-or_from : (a b c : Bool) → (b ≡ true → c ≡ true) → (a || b) ≡ true → (a || c) ≡ true
-or_from true b c h e = refl
-or_from false b c h e = h e
-
-pub keys_from : (s t : State) (x : Plan) → (has_done Rlk2 s.instances ≡ true → has_done Rlk2 t.instances ≡ true) → ((g : ℕ) → has_done (Rot g) s.instances ≡ true → has_done (Rot g) t.instances ≡ true) → has_keys s x ≡ true → has_keys t x ≡ true
-unfolding has_keys
-keys_from s t x relin turn e =
-    let both = and_parts (not x.product || has_done Rlk2 s.instances) (list_all (has_turn s) x.turns) e in
-    and_from (not x.product || has_done Rlk2 t.instances) (list_all (has_turn t) x.turns)
-    (or_from (not x.product) (has_done Rlk2 s.instances) (has_done Rlk2 t.instances) relin both.0)
-    (all_from (has_turn s) (has_turn t) x.turns turn both.1)
-
--- ---- what is asked for
 
 abbrev Asked : Fixed → Instance → Type 0
 Asked f i = (Contains (needed_keys f) i.signature) ⊎ ((c : ℕ) × (i.signature ≡ Dec c))
@@ -90,11 +75,11 @@ grows_on f s t g n = record {
 
 -- ---- a share is counted
 
-count_circuit : (f : Fixed) (s : State) (i : Instance) (p c : ℕ) → ((d : ℕ) → i.signature ≡ Dec d → circuit s.circuits d ≡ Evaluated) → (b : Bool)
+count_circuit : (s : State) (i : Instance) (p c : ℕ) → ((d : ℕ) → i.signature ≡ Dec d → circuit s.circuits d ≡ Evaluated) → (b : Bool)
     → (circuit (cond b (answered_by i.signature s.circuits) s.circuits) c ≡ circuit s.circuits c)
     ⊎ ((circuit (cond b (answered_by i.signature s.circuits) s.circuits) c ≡ Answered) × (circuit s.circuits c ≡ Evaluated))
-count_circuit f s i p c evaluated false = inl refl
-count_circuit f s i p c evaluated true = elim (decides_dec i.signature c) [
+count_circuit s i p c evaluated false = inl refl
+count_circuit s i p c evaluated true = elim (decides_dec i.signature c) [
   | inl its ↦ inr (answered_its i.signature s.circuits c its, evaluated c its)
   | inr none ↦ inl (answered_other i.signature s.circuits c none)
 ]
@@ -107,18 +92,19 @@ loss_length : (p : ℕ) (is : List Instance) → length (after_loss p is) ≡ le
 unfolding after_loss
 loss_length p is = length-map is _
 
-count_grows : (f : Fixed) (s : State) (id p : ℕ) (i : Instance) → Kept f s → Grounded f s → instance s.instances id ≡ Some i → Kept f (after_count i p s) → IsLater s (after_count i p s)
-    → ((d : ℕ) → i.signature ≡ Dec d → circuit s.circuits d ≡ Evaluated) → GrowsOn f s (after_count i p s)
-count_grows f s id p i k g found kept later evaluated =
-    let t = after_count i p s in
+count_grows : (f : Fixed) (s : State) (i : Instance) (p : ℕ) → Kept f s → Grounded f s → Waits s i p → Kept f (changed (Counts i p) s) → IsLater s (changed (Counts i p) s) → GrowsOn f s (changed (Counts i p) s)
+unfolding changed
+count_grows f s i p k g w kept later =
+    let t = changed (Counts i p) s in
+    let evaluated : (d : ℕ) → i.signature ≡ Dec d → circuit s.circuits d ≡ Evaluated = λ d its. (k.decrypts i w.within).opened d its w.opened in
     record {
       later = later;
       given = refl;
-      begun = λ c e. elim (count_circuit f s i p c evaluated (nat_eq (missing p i) 0)) [
+      begun = λ c e. elim (count_circuit s i p c evaluated (is_last p i)) [
         | inl same_ ↦ subst (λ (z : CircuitState). is_begun z ≡ true) same_ e
         | inr now ↦ rw now.1 refl
       ];
-      refused = λ c. elim (count_circuit f s i p c evaluated (nat_eq (missing p i) 0)) [
+      refused = λ c. elim (count_circuit s i p c evaluated (is_last p i)) [
         | inl same_ ↦ ap is_refused same_
         | inr now ↦ ap is_refused now.0 ∙ sym (ap is_refused now.1)
       ];
@@ -153,9 +139,10 @@ row_given given c k d e = elim (cases_eq d c) [
   ]
 ]
 
-give_grounds : (f : Fixed) (s : State) (c k : ℕ) → has_done Pk s.instances ≡ true → Grounded f s → Grounded f (record s { given = with_input s.given c k })
+give_grounds : (f : Fixed) (s : State) (c k : ℕ) → has_done Pk s.instances ≡ true → Grounded f s → Grounded f (changed (Gives c k) s)
+unfolding changed
 give_grounds f s c k done g =
-    let t : State = record s { given = with_input s.given c k } in
+    let t = changed (Gives c k) s in
     record {
       rows = λ d. row_length s.given c k d ∙ g.rows d;
       key = λ d j e. done;
@@ -167,18 +154,16 @@ give_grounds f s c k done g =
 
 -- ---- a circuit is taken, evaluated, or given back
 
-ready_has : (f : Fixed) (s : State) (c : ℕ) → ready f s c ≡ true → (list_all is_given_input (slice_index_or s.given c []) ≡ true) × (has_keys s (plan f c) ≡ true)
-unfolding ready
-ready_has f s c e = let both = and_parts _ _ e in ((and_parts _ _ both.0).1, both.1)
-
-begun_has : (f : Fixed) (s : State) (c : ℕ) (now : CircuitState) → Grounded f s → MayBegin f s c now → is_begun now ≡ true → (list_all is_given_input (slice_index_or s.given c []) ≡ true) × (has_keys s (plan f c) ≡ true)
-begun_has f s c now g may e = elim (may e) [
-  | inl is_ready ↦ ready_has f s c is_ready
-  | inr before ↦ (g.inputs c before, g.keys c before)
-]
+-- one that is begun has its inputs and its keys, before it is turned
+begun_has : (f : Fixed) (s : State) (caller : ℕ) (c : Call) (r : Reply) (d : ℕ) (now : CircuitState) → Grounded f s → MayTurn f s caller c r d now → is_begun now ≡ true → (list_all is_given_input (slice_index_or s.given d []) ≡ true) × (has_keys s (plan f d) ≡ true)
+begun_has f s caller c r d (Refused place bound limit) g m e = absurd m
+begun_has f s caller c r d Idle g m e = cc
+begun_has f s caller c r d (Taken who) g m e = let x = ready_is f s d (found_ready f s d m.next).0 in (x.given, x.keys)
+begun_has f s caller c r d Evaluated g m e = let h : is_begun (circuit s.circuits d) ≡ true = rw (m.taken) refl in (g.inputs d h, g.keys d h)
+begun_has f s caller c r d Answered g m e = absurd m
 
 -- where circuit c is set, each is as it was, or it is c
-set_cases : (circuits : List CircuitState) (c d : ℕ) (now : CircuitState) → (circuit (set circuits c now) d ≡ circuit circuits d) ⊎ ((d ≡ c) × (circuit (set circuits c now) d ≡ now))
+pub set_cases : (circuits : List CircuitState) (c d : ℕ) (now : CircuitState) → (circuit (set circuits c now) d ≡ circuit circuits d) ⊎ ((d ≡ c) × (circuit (set circuits c now) d ≡ now))
 set_cases circuits c d now = elim (cases_eq d c) [
   | inr n ↦ inl (get_or-set_other circuits c d now Answered n)
   | inl e ↦ elim (circuit_set circuits c now) [
@@ -187,14 +172,16 @@ set_cases circuits c d now = elim (cases_eq d c) [
   ]
 ]
 
-turn_grounds : (f : Fixed) (s : State) (caller c : ℕ) (now : CircuitState) → MayTurn caller (circuit s.circuits c) → is_refused now ≡ false → MayBegin f s c now → Grounded f s → Grounded f (with_circuit s c now)
-turn_grounds f s caller c now may admitted begins g =
-    let t = with_circuit s c now in
+turn_grounds : (f : Fixed) (s : State) (caller : ℕ) (x : Call) (r : Reply) (c : ℕ) (now : CircuitState) → MayTurn f s caller x r c now → Grounded f s → Grounded f (changed (Turns c now) s)
+unfolding changed
+turn_grounds f s caller x r c now may g =
+    let t = changed (Turns c now) s in
+    let was = turned f s caller x r c now may in
     let has_both : (d : ℕ) → is_begun (circuit t.circuits d) ≡ true → (list_all is_given_input (slice_index_or s.given d []) ≡ true) × (has_keys s (plan f d) ≡ true) =
     λ d e. elim (set_cases s.circuits c d now) [
       | inl same_ ↦ let h : is_begun (circuit s.circuits d) ≡ true = subst (λ (z : CircuitState). is_begun z ≡ true) same_ e in (g.inputs d h, g.keys d h)
       | inr it ↦
-          let h = begun_has f s c now g begins (subst (λ (z : CircuitState). is_begun z ≡ true) it.1 e) in
+          let h = begun_has f s caller x r c now g may (subst (λ (z : CircuitState). is_begun z ≡ true) it.1 e) in
           subst (λ (z : ℕ). (list_all is_given_input (slice_index_or s.given z []) ≡ true) × (has_keys s (plan f z) ≡ true)) (sym it.0) h
     ] in
     record {
@@ -206,8 +193,8 @@ turn_grounds f s caller c now may admitted begins g =
       refused = λ d. elim (set_cases s.circuits c d now) [
         | inl same_ ↦ ap is_refused same_ ∙ g.refused d
         | inr it ↦
-            let was : is_refused (circuit s.circuits d) ≡ false = subst (λ (z : ℕ). is_refused (circuit s.circuits z) ≡ false) (sym it.0) (open_is caller (circuit s.circuits c) may).admitted in
-            ap is_refused it.1 ∙ admitted ∙ sym was ∙ g.refused d
+            let was_ : is_refused (circuit s.circuits d) ≡ false = subst (λ (z : ℕ). is_refused (circuit s.circuits z) ≡ false) (sym it.0) was.admitted in
+            ap is_refused it.1 ∙ was.still ∙ sym was_ ∙ g.refused d
       ];
     }
 
@@ -227,47 +214,42 @@ asked_pushed f s i g needed j m = elim (Contains-push_cases s.instances i j m) [
   | inr it ↦ subst (λ (z : Instance). Asked f z) it (asked_needed f s.circuits i needed)
 ]
 
-move_asks : (f : Fixed) (s : State) (m : Move) → Grounded f s → MoveIs f s.present s.instances s.circuits m → Kept f (record s { instances = instances_after s.instances m }) → IsLater s (record s { instances = instances_after s.instances m })
-    → (i : Instance) → Contains (instances_after s.instances m) i → Asked f i
-unfolding instances_after fresh
+move_asks : (f : Fixed) (s : State) (m : Move) → Grounded f s → MoveIs f s m → Kept f (moved s m) → IsLater s (moved s m) → (i : Instance) → Contains (moved s m).instances i → Asked f i
+unfolding moved instances_after fresh
 move_asks f s m g (gives_up i by none n d lost e) k later =
-    asked_as_many f s (record s { instances = instances_after s.instances m }) g k later (ap (λ (z : Move). length (instances_after s.instances z)) e ∙ void_length i.id by s.instances)
+    asked_as_many f s (moved s m) g k later (ap (λ (z : Move). length (instances_after s.instances z)) e ∙ void_length i.id by s.instances)
 move_asks f s m g (second i none n d all needed e) k later = rw e (asked_pushed f s (fresh s.instances Rlk2 i.set i.id) g needed)
-move_asks f s m g (other σ no_second none many needed e) k later = rw e (asked_pushed f s (fresh s.instances σ (least_present f s.present) 0) g needed)
+move_asks f s m g (other σ no_second none many needed e) k later = rw e (asked_pushed f s (fresh s.instances σ (least_present f s) 0) g needed)
 
--- ---- any change, any call, any history
+-- ---- any deed, any call, any history
 
 abbrev pub KeptWell : Fixed → State → Type 0
 KeptWell f s = Kept f s × Grounded f s
 
-ground_then : (caller : ℕ) (f : Fixed) (s t : State) → KeptWell f s → Kept f t → IsLater s t → Change Anybody caller f s t → Grounded f t
-ground_then caller f s t g k later (joins p _ e) = rw e (grows_on f s (record s { present = with_party s.present p }) g.1 (record { later = rw e at later; given = refl; begun = λ c h. h; refused = λ c. refl; asked = g.1.asked }))
-ground_then caller f s t g k later (loses p h e) =
-    let u : State = record s { present = without_party s.present p; instances = after_loss p s.instances } in
-    let later_ : IsLater s u = subst (λ (z : State). IsLater s z) e later in
-    let k_ : Kept f u = subst (λ (z : State). Kept f z) e k in
-    subst (λ (z : State). Grounded f z) (sym e) (grows_on f s u g.1 (record { later = later_; given = refl; begun = λ c h. h; refused = λ c. refl; asked = asked_as_many f s u g.1 k_ later_ (loss_length p s.instances) }))
-ground_then caller f s t g k later (counts id p i found member alive unsent e) =
-    let u = after_count i p s in
-    let later_ : IsLater s u = subst (λ (z : State). IsLater s z) e later in
-    let k_ : Kept f u = subst (λ (z : State). Kept f z) e k in
-    let m = instance_within s.instances id i found in
-    let opened = lacking_opened f s.present i p (g.0.sound i m) alive member unsent in
-    subst (λ (z : State). Grounded f z) (sym e) (grows_on f s u g.1 (count_grows f s id p i g.0 g.1 found k_ later_ (λ d its. (g.0.decrypts i m).opened d its opened)))
-ground_then caller f s t g k later (gives c j done e) = subst (λ (z : State). Grounded f z) (sym e) (give_grounds f s c j done g.1)
-ground_then caller f s t g k later (turns c now may admitted unanswered begins e) = subst (λ (z : State). Grounded f z) (sym e) (turn_grounds f s caller c now may admitted begins g.1)
-ground_then caller f s t g k later (moves m next e) =
-    let u : State = record s { instances = instances_after s.instances m } in
-    let later_ : IsLater s u = subst (λ (z : State). IsLater s z) e later in
-    let k_ : Kept f u = subst (λ (z : State). Kept f z) e k in
-    subst (λ (z : State). Grounded f z) (sym e)
-    (grows_on f s u g.1 (record { later = later_; given = refl; begun = λ c h. h; refused = λ c. refl; asked = move_asks f s m g.1 (move_is f s.present s.instances s.circuits m next) k_ later_ }))
+move_grounds : (f : Fixed) (s : State) (m : Move) → KeptWell f s → next_move f s ≡ Some m → KeptWell f (moved s m)
+unfolding moved
+move_grounds f s m g e =
+    let n = move_next f s m g.0 e in
+    (n.0, grows_on f s (moved s m) g.1 (record { later = n.1; given = refl; begun = λ c h. h; refused = λ c. refl; asked = move_asks f s m g.1 (move_is f s m e) n.0 n.1 }))
 
-ground_change : (caller : ℕ) (f : Fixed) (s t : State) → KeptWell f s → Change Anybody caller f s t → KeptWell f t × IsLater s t
-ground_change caller f s t g c = let n = change_next caller f s t g.0 c in ((n.0, ground_then caller f s t g n.0 n.1 c), n.1)
+deed_grounds : (f : Fixed) (s : State) (caller : ℕ) (c : Call) (r : Reply) (d : Deed) → KeptWell f s → Allows f s caller c r d → Kept f (changed d s) → IsLater s (changed d s) → Grounded f (changed d s)
+unfolding changed
+deed_grounds f s caller c r Nothing g a k later = g.1
+deed_grounds f s caller c r (Joins p) g a k later = grows_on f s (changed (Joins p) s) g.1 (record { later = later; given = refl; begun = λ c h. h; refused = λ c. refl; asked = g.1.asked })
+deed_grounds f s caller c r (Loses p) g a k later =
+    grows_on f s (changed (Loses p) s) g.1 (record { later = later; given = refl; begun = λ c h. h; refused = λ c. refl; asked = asked_as_many f s (changed (Loses p) s) g.1 k later (loss_length p s.instances) })
+deed_grounds f s caller c r (Counts i p) g a k later = grows_on f s (changed (Counts i p) s) g.1 (count_grows f s i p g.0 g.1 (waits f s c r i p g.0 a) k later)
+deed_grounds f s caller c r (Gives d j) g a k later = give_grounds f s d j a.key g.1
+deed_grounds f s caller c r (Turns d now) g a k later = turn_grounds f s caller c r d now a g.1
+
+pub deed_well : (f : Fixed) (s : State) (caller : ℕ) (c : Call) (r : Reply) (d : Deed) → KeptWell f s → Allows f s caller c r d → KeptWell f (changed d s)
+deed_well f s caller c r d g a = let n = deed_next f s caller c r d g.0 a in (n.0, deed_grounds f s caller c r d g a n.0 n.1)
 
 pub step_grounds : (f : Fixed) (s : State) (caller : ℕ) (c : Call) → KeptWell f s → KeptWell f (step f s caller c).1
-step_grounds f s caller c g = (step_goes f Anybody caller (KeptWell f) IsLater later_reflexive later_transitive (ground_change caller f) s c (anybody_joins c) g).0
+unfolding step
+step_grounds f s caller c g =
+    let v = judge f s caller c in
+    done_keeps f (KeptWell f) (move_grounds f) v.deed s (deed_well f s caller c v.reply v.deed g (judged f s caller c))
 
 pub after_grounds : (f : Fixed) (s : State) (es : List Entry) → KeptWell f s → KeptWell f (after f s es)
 unfolding after
@@ -331,3 +313,17 @@ calls_ground f s caller c k g = (step_grounds f s caller c (k, g)).1
 
 pub histories_ground : HistoriesGround
 histories_ground f es w = (state_grounds f es w).1
+
+-- ---- the refused circuits
+
+pub refused_ones_began_so : RefusedOnesBeganSo
+refused_ones_began_so f es c place bound limit =
+    let s = state_after f es in
+    let later = (after_next f (opening f) es (opening_kept f)).1 in
+    let first = opening_circuit f c in (
+      λ e. elim (cases_Bool (is_refused (circuit (opening f).circuits c))) [
+        | inl h ↦ sym first ∙ sym (later.refused c h) ∙ e
+        | inr h ↦ absurd (both_ways (is_refused (circuit s.circuits c)) (later.admitted c h) (rw e refl))
+      ],
+      λ e. let was : is_refused (circuit (opening f).circuits c) ≡ true = rw (first, e) refl in later.refused c was ∙ first ∙ e,
+    )

@@ -1,7 +1,7 @@
 -- What the rules of issue bring, from any state: which signatures may be issued is known by what is needed,
 -- and no complete first round is given up whose parties are all present.
-use Rattle.std.proofs.Common.{◌≡◌, ◌≢◌, ◌∙◌, sym, ap, subst, refl, ℕ, zero, suc, ◌+◌, ◌<◌, ◌≤◌, Bool, true, false, not, ◌&&◌, ◌⊎◌, inl, inr, List, [], ◌∷◌, ◌++◌, length, map, find, Contains, Option, Some, None, arith}
-use Rattle.std.specs.Prelude.{if◌then◌else◌, nat_eq}
+use Rattle.std.proofs.Common.{◌≡◌, ◌≢◌, ◌∙◌, sym, ap, subst, refl, ℕ, ◌+◌, ◌<◌, ◌≤◌, Bool, true, false, not, ◌&&◌, ◌⊎◌, inl, inr, List, [], ◌∷◌, ◌++◌, length, map, find, Contains, Option, Some, None, arith}
+use Rattle.std.specs.Prelude.{if◌then◌else◌, nat_eq, nat_le, ⊤}
 use Rattle.std.specs.List.{range_with_len}
 use Rattle.std.specs.Option.{option_map, option_or, option_and_then}
 use Rattle.std.proofs.lemmas.Bool.{both_ways, cases_Bool, eqb-true, false_from_ne_true, not_from_false, not-true, and_parts, and_from, le-leb}
@@ -15,19 +15,18 @@ use Rattle.proto_names.specs.declared.signature.Signature.{Signature}
 use Rattle.proto_names.specs.declared.signature.Signature.TheVariants.{Rlk1, Rlk2, Dec}
 use Rattle.proto_names.specs.declared.instance.Instance.{Instance}
 use Rattle.proto_names.specs.declared.instance.Stage.TheVariants.{Opened, Void}
-use Rattle.session_rules.specs.declared.state.CircuitState.{CircuitState}
 use Rattle.session_rules.specs.declared.moves.Move.{Move}
 use Rattle.session_rules.specs.declared.moves.Move.TheVariants.{GiveUp, Issue}
 use Rattle.session_rules.specs.declared.fixed.Fixed.{Fixed}
 use Rattle.session_rules.specs.States.{State, circuit, is_evaluated, has_live, has_done}
-use Rattle.session_rules.specs.Issues.{keys, enough, condition, may_issue, may_decrypt, next_decryption, next_signature, outdated, rule_1, second_round, least_present, issued_as, rule_2, next_move, instances_after, issued_in, issue, most_moves}
+use Rattle.session_rules.specs.Issues.{keys, enough, condition, may_issue, may_decrypt, next_decryption, next_signature, outdated, rule_1, second_round, least_present, issued_as, rule_2, next_move, instances_after, moved, issue}
 use Rattle.session_rules.specs.Facts.{IsLive, Kept, IsAtRest}
+use Rattle.session_rules.proofs.Stepwise.{IsBeside, issue_keeps}
 use Rattle.session_rules.proofs.Contained.{contains_map, contains_map_from, find_none, find_some, any_true, any_from, none_from_find}
 use Rattle.session_rules.proofs.Marks.{same_is, same_self, IsDone, done_is, done_from, lives_is, lives_from, complete_lives, one_number}
 use Rattle.session_rules.proofs.PartySets.{none_outside, least_within}
 use Rattle.session_rules.proofs.MoveKinds.{MoveIs, gives_up, second, other, move_is, IsNeeded, key, decryption, IsNext, next_is, map_none}
-use Rattle.session_rules.proofs.Ordered.{Ordered, ordered_in}
-use Rattle.session_rules.proofs.Keeps.{move_ordered}
+use Rattle.session_rules.proofs.Keeps.{move_kept}
 use Rattle.session_rules.proofs.Weights.{none_done}
 
 -- ---- one of a signature
@@ -65,13 +64,13 @@ not_before b c h e = false_from_ne_true b (λ t. both_ways c e (h t))
 
 -- ---- the condition
 
-pub condition_second : (f : Fixed) (present : ℕ) (is : List Instance) (σ : Signature) → σ ≡ Rlk2 → condition f present is σ ≡ has_done Rlk1 is
+pub condition_second : (f : Fixed) (s : State) (σ : Signature) → σ ≡ Rlk2 → condition f s σ ≡ has_done Rlk1 s.instances
 unfolding condition
-condition_second f present is σ e = rw e (rw (same_self Rlk2) refl)
+condition_second f s σ e = rw e (rw (same_self Rlk2) refl)
 
-pub condition_other : (f : Fixed) (present : ℕ) (is : List Instance) (σ : Signature) → σ ≢ Rlk2 → condition f present is σ ≡ enough f present
-unfolding condition
-condition_other f present is σ n = rw (false_from_ne_true (same σ Rlk2) (λ h. n (same_is σ Rlk2 h))) refl
+pub condition_other : (f : Fixed) (s : State) (σ : Signature) → σ ≢ Rlk2 → condition f s σ ≡ nat_le f.threshold (count s.present)
+unfolding condition enough
+condition_other f s σ n = rw (false_from_ne_true (same σ Rlk2) (λ h. n (same_is σ Rlk2 h))) refl
 
 pub decides_second : (σ : Signature) → (σ ≡ Rlk2) ⊎ (σ ≢ Rlk2)
 decides_second σ = elim (cases_Bool (same σ Rlk2)) [
@@ -87,32 +86,34 @@ decides_first σ = elim (cases_Bool (same σ Rlk1)) [
 
 -- ---- what may be issued
 
+-- all parties of an instance are present
 abbrev pub IsWithin : ℕ → Instance → Type 0
 IsWithin present i = (p : ℕ) → has i.set.bits p ≡ true → has present p ≡ true
 
 -- what is needed, has none that lives, and may be issued, is one of those said
-abbrev pub Owes : (Signature → Type 0) → Fixed → ℕ → List CircuitState → List Instance → Type 0
-Owes X f present circuits is = (σ : Signature) → IsNeeded f circuits σ → has_live σ is ≡ false → condition f present is σ ≡ true → X σ
+abbrev pub Owes : (Signature → Type 0) → Fixed → State → Type 0
+Owes X f s = (σ : Signature) → IsNeeded f s.circuits σ → has_live σ s.instances ≡ false → condition f s σ ≡ true → X σ
 
 -- no complete first round is given up
-abbrev pub IsFirm : ℕ → List Instance → Type 0
-IsFirm present is = (i : Instance) → Contains is i → IsDone Rlk1 i → has_live Rlk2 is ≡ false → IsWithin present i
+abbrev pub IsFirm : State → Type 0
+IsFirm s = (i : Instance) → Contains s.instances i → IsDone Rlk1 i → has_live Rlk2 s.instances ≡ false → IsWithin s.present i
 
 -- a new one
-pub record IsNew (X : Signature → Type 0) (present b : ℕ) (i : Instance) : Type 0 where
-  pub id : b < i.id
+pub record IsNew (X : Signature → Type 0) (s : State) (i : Instance) : Type 0 where
+  pub id : length s.instances < i.id
   pub opened : i.stage ≡ Opened
+  pub unsent : i.sent.bits ≡ 0
   pub may : X i.signature
-  pub within : IsWithin present i
+  pub within : IsWithin s.present i
 
 -- where an instance comes from
-pub data Origin (X : Signature → Type 0) (present : ℕ) (is : List Instance) (i : Instance) : Type 0 where
-  stayed : Contains is i → Origin X present is i
-  lapsed : is_void i.stage ≡ true → Origin X present is i
-  came : IsNew X present (length is) i → Origin X present is i
+pub data Origin (X : Signature → Type 0) (s : State) (i : Instance) : Type 0 where
+  stayed : Contains s.instances i → Origin X s i
+  lapsed : is_void i.stage ≡ true → Origin X s i
+  came : IsNew X s i → Origin X s i
 
-abbrev pub Stems : (Signature → Type 0) → ℕ → List Instance → List Instance → Type 0
-Stems X present is now = (i : Instance) → Contains now i → Origin X present is i
+abbrev pub Stems : (Signature → Type 0) → State → List Instance → Type 0
+Stems X s now = (i : Instance) → Contains now i → Origin X s i
 
 -- ---- a state at rest
 
@@ -121,52 +122,47 @@ unfolding has_done
 find_done is e n = both_ways _ (none_from_find (is_done Rlk1) is n) e
 
 -- where rule 2 does not apply nothing may be issued
-unissued : (f : Fixed) (present : ℕ) (is : List Instance) (circuits : List CircuitState) (σ : Signature) → IsNext f present is circuits σ → issued_as f present is σ ≡ None → ⊥
+unissued : (f : Fixed) (s : State) (σ : Signature) → IsNext f s σ → issued_as f s σ ≡ None → ⊥
 unfolding issued_as
-unissued f present is circuits σ n e = at (same σ Rlk2) refl e
+unissued f s σ n e = at (same σ Rlk2) refl e
   where
-    at : (b : Bool) → same σ Rlk2 ≡ b → (if b then option_map second_round (find (is_done Rlk1) is) else Some (Issue σ (least_present f present) 0)) ≡ None → ⊥
-    at true h e = find_done is (sym (condition_second f present is σ (same_is σ Rlk2 h)) ∙ n.stands) (map_none second_round (find (is_done Rlk1) is) e)
+    at : (b : Bool) → same σ Rlk2 ≡ b → (if b then option_map second_round (find (is_done Rlk1) s.instances) else Some (Issue σ (least_present f s) 0)) ≡ None → ⊥
+    at true h e = find_done s.instances (sym (condition_second f s σ (same_is σ Rlk2 h)) ∙ n.stands) (map_none second_round (find (is_done Rlk1) s.instances) e)
     at false h e = cc
 
-next_none : (f : Fixed) (present : ℕ) (is : List Instance) (circuits : List CircuitState) (o : Option Signature) → next_signature f present is circuits ≡ o
-    → option_and_then (issued_as f present is) o ≡ None → next_signature f present is circuits ≡ None
-next_none f present is circuits None h e = h
-next_none f present is circuits (Some σ) h e = absurd (unissued f present is circuits σ (next_is f present is circuits σ h) e)
+next_none : (f : Fixed) (s : State) (o : Option Signature) → next_signature f s ≡ o → option_and_then (issued_as f s) o ≡ None → next_signature f s ≡ None
+next_none f s None h e = h
+next_none f s (Some σ) h e = absurd (unissued f s σ (next_is f s σ h) e)
 
 or_none : {A : Type 0} (o p : Option A) → option_or o p ≡ None → (o ≡ None) × (p ≡ None)
 or_none None p e = (refl, e)
 or_none (Some x) p e = cc
 
-no_signature : (f : Fixed) (present : ℕ) (is : List Instance) (circuits : List CircuitState) → next_move f present is circuits ≡ None → next_signature f present is circuits ≡ None
+no_signature : (f : Fixed) (s : State) → next_move f s ≡ None → next_signature f s ≡ None
 unfolding next_move rule_2
-no_signature f present is circuits e =
-    let rest = or_none (rule_1 present is) (rule_2 f present is circuits) e in
-    next_none f present is circuits (next_signature f present is circuits) refl rest.1
+no_signature f s e = next_none f s (next_signature f s) refl (or_none (rule_1 s) (rule_2 f s) e).1
 
-not_issued : (f : Fixed) (present : ℕ) (is : List Instance) (circuits : List CircuitState) (σ : Signature) → next_signature f present is circuits ≡ None → IsNeeded f circuits σ → may_issue f present is σ ≡ false
+not_issued : (f : Fixed) (s : State) (σ : Signature) → next_signature f s ≡ None → IsNeeded f s.circuits σ → may_issue f s σ ≡ false
 unfolding next_signature next_decryption may_decrypt
-not_issued f present is circuits σ e (key m) =
-    find_none (may_issue f present is) (keys f) σ (or_none (find (may_issue f present is) (keys f)) (next_decryption f present is circuits) e).0 m
-not_issued f present is circuits σ e (decryption c its m evaluated) =
-    let none = map_none Dec (find (may_decrypt f present is circuits) (range_with_len 0 (length circuits))) (or_none (find (may_issue f present is) (keys f)) (next_decryption f present is circuits) e).1 in
-    let fails : may_decrypt f present is circuits c ≡ false = find_none (may_decrypt f present is circuits) (range_with_len 0 (length circuits)) c none m in
-    let here : is_evaluated (circuit circuits c) ≡ true = rw evaluated refl in
-    let both : (is_evaluated (circuit circuits c) && may_issue f present is (Dec c)) ≡ false = fails in
+not_issued f s σ e (key m) = find_none (may_issue f s) (keys f) σ (or_none (find (may_issue f s) (keys f)) (next_decryption f s) e).0 m
+not_issued f s σ e (decryption c its m evaluated) =
+    let none = map_none Dec (find (may_decrypt f s) (range_with_len 0 (length s.circuits))) (or_none (find (may_issue f s) (keys f)) (next_decryption f s) e).1 in
+    let fails : may_decrypt f s c ≡ false = find_none (may_decrypt f s) (range_with_len 0 (length s.circuits)) c none m in
+    let here : is_evaluated (circuit s.circuits c) ≡ true = rw evaluated refl in
+    let both : (is_evaluated (circuit s.circuits c) && may_issue f s (Dec c)) ≡ false = fails in
     rw its (rw here at both)
 
-may_then : (f : Fixed) (present : ℕ) (is : List Instance) (σ : Signature) → has_live σ is ≡ false → condition f present is σ ≡ true → may_issue f present is σ ≡ true
+may_then : (f : Fixed) (s : State) (σ : Signature) → has_live σ s.instances ≡ false → condition f s σ ≡ true → may_issue f s σ ≡ true
 unfolding may_issue
-may_then f present is σ none stands = and_from (not (has_live σ is)) (condition f present is σ) (not_from_false (has_live σ is) none) stands
+may_then f s σ none stands = and_from (not (has_live σ s.instances)) (condition f s σ) (not_from_false (has_live σ s.instances) none) stands
 
 -- nothing is left to be issued
-pub rest_owes : (f : Fixed) (s : State) → IsAtRest f s → Owes (λ σ. ⊥) f s.present s.circuits s.instances
-rest_owes f s rest σ needed none stands =
-    both_ways (may_issue f s.present s.instances σ) (not_issued f s.present s.instances s.circuits σ (no_signature f s.present s.instances s.circuits rest) needed) (may_then f s.present s.instances σ none stands)
+pub rest_owes : (f : Fixed) (s : State) → IsAtRest f s → Owes (λ σ. ⊥) f s
+rest_owes f s rest σ needed none stands = both_ways (may_issue f s σ) (not_issued f s σ (no_signature f s rest) needed) (may_then f s σ none stands)
 
 -- no first round is left to be given up
 first_left : (f : Fixed) (s : State) (i : Instance) → Kept f s → Contains s.instances i → IsDone Rlk1 i → (o : Option Instance) → find (is_done Rlk1) s.instances ≡ o
-    → option_and_then (outdated s.present) o ≡ None → IsWithin s.present i
+    → option_and_then (outdated s) o ≡ None → IsWithin s.present i
 unfolding outdated
 first_left f s i k m d None found e = absurd (find_done s.instances (done_here Rlk1 s.instances i m d) found)
 first_left f s i k m d (Some j) found e =
@@ -181,65 +177,73 @@ unless_none : {A : Type 0} (b : Bool) (o : Option A) → (if b then None else o)
 unless_none true o e h = cc
 unless_none false o e h = e
 
-pub rest_firm : (f : Fixed) (s : State) → Kept f s → IsAtRest f s → IsFirm s.present s.instances
+pub rest_firm : (f : Fixed) (s : State) → Kept f s → IsAtRest f s → IsFirm s
 unfolding next_move rule_1
 rest_firm f s k rest i m d none =
-    let first = or_none (rule_1 s.present s.instances) (rule_2 f s.present s.instances s.circuits) rest in
+    let first = or_none (rule_1 s) (rule_2 f s) rest in
     first_left f s i k m d (find (is_done Rlk1) s.instances) refl
-    (unless_none (has_live Rlk2 s.instances) (option_and_then (outdated s.present) (find (is_done Rlk1) s.instances)) first.0 none)
+    (unless_none (has_live Rlk2 s.instances) (option_and_then (outdated s) (find (is_done Rlk1) s.instances)) first.0 none)
 
 -- ---- a move
 
--- what the moves keep, behind a list from which they begin
-record Issuing (X : Signature → Type 0) (f : Fixed) (present : ℕ) (circuits : List CircuitState) (is now : List Instance) : Type 0 where
-  ordered : Ordered f present circuits now
-  owes : Owes X f present circuits now
-  firm : (IsFirm present now) ⊎ X Rlk1
-  longer : length is ≤ length now
-  stems : Stems X present is now
+-- what the moves keep, in a state that comes of another
+record Issuing (X : Signature → Type 0) (f : Fixed) (s t : State) : Type 0 where
+  kept : Kept f t
+  beside : IsBeside s t
+  owes : Owes X f t
+  firm : (IsFirm t) ⊎ X Rlk1
+  longer : length s.instances ≤ length t.instances
+  stems : Stems X s t.instances
 
 live_pushed : (σ : Signature) (is : List Instance) (i : Instance) → has_live σ is ≡ true → has_live σ (is ++ i ∷ []) ≡ true
 live_pushed σ is i h =
     let l = live_one σ is h in
     live_from σ (is ++ i ∷ []) (record { item = l.item; within = Contains-append_left is (i ∷ []) l.item l.within; signature = l.signature; lives = l.lives })
 
-condition_pushed : (f : Fixed) (present : ℕ) (is : List Instance) (i : Instance) (σ : Signature) → i.stage ≡ Opened → condition f present (is ++ i ∷ []) σ ≡ true → condition f present is σ ≡ true
-condition_pushed f present is i σ opened h = elim (decides_second σ) [
-  | inr n ↦ condition_other f present is σ n ∙ sym (condition_other f present (is ++ i ∷ []) σ n) ∙ h
+abbrev pushed : State → Instance → State
+pushed t i = record t { instances = t.instances ++ i ∷ [] }
+
+condition_pushed : (f : Fixed) (t : State) (i : Instance) (σ : Signature) → i.stage ≡ Opened → condition f (pushed t i) σ ≡ true → condition f t σ ≡ true
+condition_pushed f t i σ opened h = elim (decides_second σ) [
+  | inr n ↦ condition_other f t σ n ∙ sym (condition_other f (pushed t i) σ n) ∙ h
   | inl e ↦
-      let d = done_one Rlk1 (is ++ i ∷ []) (sym (condition_second f present (is ++ i ∷ []) σ e) ∙ h) in
-      condition_second f present is σ e ∙ elim (Contains-push_cases is i d.item d.within) [
-        | inl old ↦ done_here Rlk1 is d.item old d.done
+      let d = done_one Rlk1 (t.instances ++ i ∷ []) (sym (condition_second f (pushed t i) σ e) ∙ h) in
+      condition_second f t σ e ∙ elim (Contains-push_cases t.instances i d.item d.within) [
+        | inl old ↦ done_here Rlk1 t.instances d.item old d.done
         | inr it ↦ let c = d.done.complete in let o : d.item.stage ≡ Opened = ap (λ (z : Instance). z.stage) (sym it) ∙ opened in cc
       ]
 ]
 
-push_issuing : (X : Signature → Type 0) (f : Fixed) (present : ℕ) (circuits : List CircuitState) (is now : List Instance) (i : Instance) → Issuing X f present circuits is now
-    → Ordered f present circuits (now ++ i ∷ []) → i.id ≡ length now + 1 → i.stage ≡ Opened → X i.signature → IsWithin present i → Issuing X f present circuits is (now ++ i ∷ [])
-push_issuing X f present circuits is now i g o number opened may within = record {
-  ordered = o;
-  owes = λ σ needed none stands. g.owes σ needed (not_before (has_live σ now) (has_live σ (now ++ i ∷ [])) (live_pushed σ now i) none) (condition_pushed f present now i σ opened stands);
-  firm = elim g.firm [
-    | inr may_ ↦ inr may_
-    | inl firm ↦ inl (λ j m d none. elim (Contains-push_cases now i j m) [
-      | inl old ↦ firm j old d (not_before (has_live Rlk2 now) (has_live Rlk2 (now ++ i ∷ [])) (live_pushed Rlk2 now i) none)
-      | inr it ↦ let c = d.complete in let o : j.stage ≡ Opened = ap (λ (z : Instance). z.stage) (sym it) ∙ opened in cc
-    ])
-  ];
-  longer = let l = g.longer in omega (arith, length_push now i);
-  stems = λ j m. elim (Contains-push_cases now i j m) [
-    | inl old ↦ g.stems j old
-    | inr it ↦ subst (λ (z : Instance). Origin X present is z) it (came (record { id = (let l = g.longer in omega arith); opened = opened; may = may; within = within }))
-  ];
-}
+push_issuing : (X : Signature → Type 0) (f : Fixed) (s t : State) (i : Instance) → Issuing X f s t
+    → Kept f (pushed t i) → i.id ≡ length t.instances + 1 → i.stage ≡ Opened → i.sent.bits ≡ 0 → X i.signature → IsWithin t.present i → Issuing X f s (pushed t i)
+push_issuing X f s t i g k number opened unsent may within =
+    let now = t.instances in
+    let there : IsWithin s.present i = λ p h. subst (λ (z : ℕ). has z p ≡ true) g.beside.present (within p h) in
+    record {
+      kept = k;
+      beside = record { present = g.beside.present; given = g.beside.given; circuits = g.beside.circuits };
+      owes = λ σ needed none stands. g.owes σ needed (not_before (has_live σ now) (has_live σ (now ++ i ∷ [])) (live_pushed σ now i) none) (condition_pushed f t i σ opened stands);
+      firm = elim g.firm [
+        | inr may_ ↦ inr may_
+        | inl firm ↦ inl (λ j m d none. elim (Contains-push_cases now i j m) [
+          | inl old ↦ firm j old d (not_before (has_live Rlk2 now) (has_live Rlk2 (now ++ i ∷ [])) (live_pushed Rlk2 now i) none)
+          | inr it ↦ let c = d.complete in let o : j.stage ≡ Opened = ap (λ (z : Instance). z.stage) (sym it) ∙ opened in cc
+        ])
+      ];
+      longer = let l = g.longer in omega (arith, length_push now i);
+      stems = λ j m. elim (Contains-push_cases now i j m) [
+        | inl old ↦ g.stems j old
+        | inr it ↦ subst (λ (z : Instance). Origin X s z) it (came (record { id = (let l = g.longer in omega arith); opened = opened; unsent = unsent; may = may; within = there }))
+      ];
+    }
 
-void_stems : (X : Signature → Type 0) (present : ℕ) (is now : List Instance) (id by : ℕ) → Stems X present is now → Stems X present is (after_void id by now)
+void_stems : (X : Signature → Type 0) (s : State) (now : List Instance) (id by : ℕ) → Stems X s now → Stems X s (after_void id by now)
 unfolding after_void
-void_stems X present is now id by stems j m =
+void_stems X s now id by stems j m =
     let c = contains_map_from (given_up id by) now j m in
-    subst (λ (z : Instance). Origin X present is z) c.same (at c.source (nat_eq c.source.id id) (stems c.source c.within))
+    subst (λ (z : Instance). Origin X s z) c.same (at c.source (nat_eq c.source.id id) (stems c.source c.within))
   where
-    at : (a : Instance) (b : Bool) → Origin X present is a → Origin X present is (if b then record a { stage = Void by } else a)
+    at : (a : Instance) (b : Bool) → Origin X s a → Origin X s (if b then record a { stage = Void by } else a)
     at a true o = lapsed refl
     at a false o = o
 
@@ -258,77 +262,70 @@ longer_void : (now : List Instance) (id by n : ℕ) → n ≤ length now → n �
 unfolding after_void
 longer_void now id by n l = omega (arith, length-map now (given_up id by))
 
-void_issuing : (X : Signature → Type 0) (f : Fixed) (present : ℕ) (circuits : List CircuitState) (is now : List Instance) (i : Instance) (by : ℕ) → Issuing X f present circuits is now
-    → Ordered f present circuits (after_void i.id by now) → Contains now i → IsDone Rlk1 i → X Rlk1 → Issuing X f present circuits is (after_void i.id by now)
-void_issuing X f present circuits is now i by g o m d may = record {
-  ordered = o;
-  owes = λ σ needed none stands. elim (decides_first σ) [
-    | inl first ↦ subst X (sym first) may
-    | inr no_first ↦ elim (decides_second σ) [
-      | inl its ↦ absurd (both_ways _ (none_done f present circuits now i by g.ordered m d) (sym (condition_second f present (after_void i.id by now) σ its) ∙ stands))
-      | inr no_second ↦ g.owes σ needed
-          (not_before (has_live σ now) (has_live σ (after_void i.id by now)) (λ h.
-          let l = live_one σ now h in
-          live_from σ (after_void i.id by now) (record {
-            item = l.item;
-            within = void_other now i l.item by (λ e. no_first (sym l.signature ∙ e)) d m l.within (λ e. one_number now l.item i g.ordered.numbered l.within m e);
-            signature = l.signature;
-            lives = l.lives;
-          })) none)
-          (condition_other f present now σ no_second ∙ sym (condition_other f present (after_void i.id by now) σ no_second) ∙ stands)
-    ]
-  ];
-  firm = inr may;
-  longer = let l = g.longer in longer_void now i.id by (length is) l;
-  stems = void_stems X present is now i.id by g.stems;
-}
+void_issuing : (X : Signature → Type 0) (f : Fixed) (s t : State) (i : Instance) (by : ℕ) → Issuing X f s t
+    → Kept f (record t { instances = after_void i.id by t.instances }) → Contains t.instances i → IsDone Rlk1 i → X Rlk1 → Issuing X f s (record t { instances = after_void i.id by t.instances })
+void_issuing X f s t i by g k m d may =
+    let now = t.instances in
+    let u : State = record t { instances = after_void i.id by now } in
+    record {
+      kept = k;
+      beside = record { present = g.beside.present; given = g.beside.given; circuits = g.beside.circuits };
+      owes = λ σ needed none stands. elim (decides_first σ) [
+        | inl first ↦ subst X (sym first) may
+        | inr no_first ↦ elim (decides_second σ) [
+          | inl its ↦ absurd (both_ways _ (none_done f t i by g.kept m d) (sym (condition_second f u σ its) ∙ stands))
+          | inr no_second ↦ g.owes σ needed
+              (not_before (has_live σ now) (has_live σ (after_void i.id by now)) (λ h.
+              let l = live_one σ now h in
+              live_from σ (after_void i.id by now) (record {
+                item = l.item;
+                within = void_other now i l.item by (λ e. no_first (sym l.signature ∙ e)) d m l.within (λ e. one_number now l.item i g.kept.numbered l.within m e);
+                signature = l.signature;
+                lives = l.lives;
+              })) none)
+              (condition_other f t σ no_second ∙ sym (condition_other f u σ no_second) ∙ stands)
+        ]
+      ];
+      firm = inr may;
+      longer = let l = g.longer in longer_void now i.id by (length s.instances) l;
+      stems = void_stems X s now i.id by g.stems;
+    }
 
 -- an absent party
 outside_parts : (set there p : ℕ) → is_outside set there p ≡ true → (has set p ≡ true) × (has there p ≡ false)
 unfolding is_outside
 outside_parts set there p h = let both = and_parts (has set p) (not (has there p)) h in (both.0, not-true (has there p) both.1)
 
-pub enough_from : (f : Fixed) (present : ℕ) → f.threshold ≤ count present → enough f present ≡ true
-unfolding enough
-enough_from f present l = le-leb f.threshold (count present) l
-
-least_parties : (f : Fixed) (present p : ℕ) → has (least_present f present).bits p ≡ true → has present p ≡ true
+least_parties : (f : Fixed) (s : State) (p : ℕ) → has (least_present f s).bits p ≡ true → has s.present p ≡ true
 unfolding least_present
-least_parties f present p h = least_within f.threshold present p h
+least_parties f s p h = least_within f.threshold s.present p h
 
-move_issuing : (X : Signature → Type 0) (f : Fixed) (present : ℕ) (circuits : List CircuitState) (is now : List Instance) (m : Move) → Issuing X f present circuits is now
-    → Ordered f present circuits (instances_after now m) → MoveIs f present now circuits m → Issuing X f present circuits is (instances_after now m)
-unfolding instances_after fresh
-move_issuing X f present circuits is now m g o (gives_up i by none n d lost e) = rw e (void_issuing X f present circuits is now i by g (rw e at o) n d (elim g.firm [
+move_issuing : (X : Signature → Type 0) (f : Fixed) (s t : State) (m : Move) → Issuing X f s t → Kept f (moved t m) → MoveIs f t m → Issuing X f s (moved t m)
+unfolding moved instances_after fresh
+move_issuing X f s t m g k (gives_up i by none n d lost e) = rw e (void_issuing X f s t i by g (rw e at k) n d (elim g.firm [
   | inr may ↦ may
-  | inl firm ↦ let out = outside_parts i.set.bits present by lost in absurd (both_ways (has present by) out.1 (firm i n d none by out.0))
+  | inl firm ↦ let out = outside_parts i.set.bits t.present by lost in absurd (both_ways (has t.present by) out.1 (firm i n d none by out.0))
 ]))
-move_issuing X f present circuits is now m g o (second i none n d all needed e) =
-    rw e (push_issuing X f present circuits is now (fresh now Rlk2 i.set i.id) g (rw e at o) refl refl
-    (g.owes Rlk2 needed none (condition_second f present now Rlk2 refl ∙ done_here Rlk1 now i n d)) (λ p h. none_outside i.set.bits present p all h))
-move_issuing X f present circuits is now m g o (other σ no_second none many needed e) =
-    rw e (push_issuing X f present circuits is now (fresh now σ (least_present f present) 0) g (rw e at o) refl refl
-    (g.owes σ needed none (condition_other f present now σ no_second ∙ enough_from f present many)) (λ p h. least_parties f present p h))
-
-issuing_then : (n : ℕ) (X : Signature → Type 0) (f : Fixed) (present : ℕ) (circuits : List CircuitState) (is now : List Instance) → Issuing X f present circuits is now
-    → ((later : List Instance) → Issuing X f present circuits is later → Stems X present is (issued_in n f present later circuits))
-    → (m : Option Move) → next_move f present now circuits ≡ m → Stems X present is (elim m as (λ x. List Instance) [
-      | None ↦ now
-      | Some m ↦ issued_in n f present (instances_after now m) circuits
-    ])
-issuing_then n X f present circuits is now g more None e = g.stems
-issuing_then n X f present circuits is now g more (Some m) e =
-    let it = move_is f present now circuits m e in
-    more (instances_after now m) (move_issuing X f present circuits is now m g (move_ordered f present now circuits m g.ordered it) it)
-
-issuing_in : (n : ℕ) (X : Signature → Type 0) (f : Fixed) (present : ℕ) (circuits : List CircuitState) (is now : List Instance) → Issuing X f present circuits is now → Stems X present is (issued_in n f present now circuits)
-unfolding issued_in
-issuing_in zero X f present circuits is now g = g.stems
-issuing_in (suc n) X f present circuits is now g = issuing_then n X f present circuits is now g (issuing_in n X f present circuits is) (next_move f present now circuits) refl
+move_issuing X f s t m g k (second i none n d all needed e) =
+    rw e (push_issuing X f s t (fresh t.instances Rlk2 i.set i.id) g (rw e at k) refl refl refl
+    (g.owes Rlk2 needed none (condition_second f t Rlk2 refl ∙ done_here Rlk1 t.instances i n d)) (λ p h. none_outside i.set.bits t.present p all h))
+move_issuing X f s t m g k (other σ no_second none many needed e) =
+    rw e (push_issuing X f s t (fresh t.instances σ (least_present f t) 0) g (rw e at k) refl refl refl
+    (g.owes σ needed none (condition_other f t σ no_second ∙ le-leb f.threshold (count t.present) many)) (λ p h. least_parties f t p h))
 
 -- where only some signatures may be issued, and no first round is given up or it may be issued anew, only those are issued
-pub issue_stems : (X : Signature → Type 0) (f : Fixed) (s : State) → Kept f s → Owes X f s.present s.circuits s.instances → (IsFirm s.present s.instances) ⊎ X Rlk1 → Stems X s.present s.instances (issue f s).instances
-unfolding issue
+pub issue_stems : (X : Signature → Type 0) (f : Fixed) (s : State) → Kept f s → Owes X f s → (IsFirm s) ⊎ X Rlk1 → Stems X s (issue f s).instances
 issue_stems X f s k owes firm =
-    issuing_in (most_moves f) X f s.present s.circuits s.instances s.instances
-    (record { ordered = ordered_in f s k; owes = owes; firm = firm; longer = omega arith; stems = λ i m. stayed m })
+    (issue_keeps f (Issuing X f s) (λ t m g e. let it = move_is f t m e in move_issuing X f s t m g (move_kept f t m g.kept it) it) s
+    (record { kept = k; beside = record { present = refl; given = refl; circuits = refl }; owes = owes; firm = firm; longer = omega arith; stems = λ i m. stayed m })).stems
+
+-- issuing completes nothing
+pub issue_done : (f : Fixed) (s : State) (σ : Signature) → Kept f s → has_done σ (issue f s).instances ≡ true → has_done σ s.instances ≡ true
+issue_done f s σ k h =
+    let d = done_one σ (issue f s).instances h in
+    let c = d.done.complete in
+    elim (issue_stems (λ τ. ⊤) f s k (λ τ a b e. tt) (inr tt) d.item d.within) [
+      | stayed m ↦ done_here σ s.instances d.item m d.done
+      | lapsed void ↦ absurd (both_ways (is_void d.item.stage) (complete_lives d.item c) void)
+      | came it ↦ let o = it.opened in cc
+    ]

@@ -13,7 +13,7 @@ use Rattle.proto_names.specs.declared.instance.Stage.TheVariants.{Opened, Comple
 use Rattle.session_rules.specs.declared.state.CircuitState.{CircuitState}
 use Rattle.session_rules.specs.declared.state.CircuitState.TheVariants.{Answered}
 use Rattle.session_rules.specs.States.{State, circuit, is_given, is_refused}
-use Rattle.session_rules.specs.Steps.{with_input}
+use Rattle.session_rules.specs.Deeds.{with_input}
 use Rattle.session_rules.specs.Facts.{IsLive, IsSameLater, IsLater, is_settled}
 use Rattle.session_rules.proofs.Marks.{IsDone}
 use Rattle.session_rules.proofs.PartySets.{with_keeps}

@@ -12,14 +12,14 @@ use Rattle.proto_names.specs.declared.instance.Instance.{Instance}
 use Rattle.proto_names.specs.declared.instance.Stage.TheVariants.{Opened, Complete, Void}
 use Rattle.session_rules.specs.declared.state.CircuitState.{CircuitState}
 use Rattle.session_rules.specs.declared.fixed.Fixed.{Fixed}
-use Rattle.session_rules.specs.States.{has_live}
-use Rattle.session_rules.specs.Steps.{lacks_for, falls, fallen, after_loss}
-use Rattle.session_rules.specs.Facts.{IsLive, IsSameLater, IsSound, Decrypts}
+use Rattle.session_rules.specs.States.{State, has_live}
+use Rattle.session_rules.specs.Deeds.{lacks_for, falls, fallen, after_loss}
+use Rattle.session_rules.specs.Facts.{IsLive, IsSameLater, IsSound, Decrypts, Kept}
 use Rattle.session_rules.proofs.Contained.{any_true}
 use Rattle.session_rules.proofs.Marks.{IsDone, Lacks, lacks_is, lacks_from, one_number, same_is, none_lives, opened_lives}
 use Rattle.session_rules.proofs.PartySets.{without_keeps}
 use Rattle.session_rules.proofs.Later.{void_later, where_so, later_lives}
-use Rattle.session_rules.proofs.Ordered.{Ordered, numbered_map, one_map, each_map, rounds_map}
+use Rattle.session_rules.proofs.Ordered.{numbered_map, one_map, each_map, rounds_map}
 
 -- ---- a void one
 
@@ -44,32 +44,36 @@ either_one P false now a yes_ no_ = no_ refl
 
 -- ---- rule 1: a complete first round is given up
 
-pub give_up_later : (is : List Instance) (i : Instance) (by : ℕ) → (f : Fixed) (present : ℕ) (circuits : List CircuitState) → Ordered f present circuits is
-    → Contains is i → IsDone Rlk1 i → (a : Instance) → Contains is a → IsSameLater a (given_up i.id by a)
-give_up_later is i by f present circuits o within done a m =
+pub give_up_later : (f : Fixed) (s : State) (i : Instance) (by : ℕ) → Kept f s → Contains s.instances i → IsDone Rlk1 i → (a : Instance) → Contains s.instances a → IsSameLater a (given_up i.id by a)
+give_up_later f s i by k within done a m =
     where_so a (record a { stage = Void by }) (nat_eq a.id i.id)
-    (λ e. void_later a by (inr (subst (λ (z : Instance). IsDone Rlk1 z) (one_number is i a o.numbered within m (sym (eqb-true a.id i.id e))) done)))
+    (λ e. void_later a by (inr (subst (λ (z : Instance). IsDone Rlk1 z) (one_number s.instances i a k.numbered within m (sym (eqb-true a.id i.id e))) done)))
 
-pub give_up_ordered : (is : List Instance) (i : Instance) (by : ℕ) → (f : Fixed) (present : ℕ) (circuits : List CircuitState) → Ordered f present circuits is
-    → Contains is i → IsDone Rlk1 i → has_live Rlk2 is ≡ false → Ordered f present circuits (after_void i.id by is)
+pub give_up_kept : (f : Fixed) (s : State) (i : Instance) (by : ℕ) → Kept f s → Contains s.instances i → IsDone Rlk1 i → has_live Rlk2 s.instances ≡ false → Kept f (record s { instances = after_void i.id by s.instances })
 unfolding after_void
-give_up_ordered is i by f present circuits o within done none =
+give_up_kept f s i by k within done none =
+    let is = s.instances in
     let g = given_up i.id by in
-    let later = give_up_later is i by f present circuits o within done in
+    let later = give_up_later f s i by k within done in
     record {
-      numbered = numbered_map g is later o.numbered;
-      one = one_map g is later o.one;
-      sound = each_map g is (λ a. IsSound f present a) (λ a. IsSound f present a)
-          (λ a m s. either_one (λ b. IsSound f present b) (nat_eq a.id i.id) (record a { stage = Void by }) a (λ e. void_sound f present present a by s) (λ e. s)) o.sound;
-      decrypts = each_map g is (λ a. Decrypts circuits a) (λ a. Decrypts circuits a)
-          (λ a m s. either_one (λ b. Decrypts circuits b) (nat_eq a.id i.id) (record a { stage = Void by }) a (λ e. void_decrypts circuits a by) (λ e. s)) o.decrypts;
+      circuits = k.circuits;
+      given = k.given;
+      numbered = numbered_map g is later k.numbered;
+      one = one_map g is later k.one;
+      sound = each_map g is (λ a. IsSound f s.present a) (λ a. IsSound f s.present a)
+          (λ a m s_. either_one (λ b. IsSound f s.present b) (nat_eq a.id i.id) (record a { stage = Void by }) a (λ e. void_sound f s.present s.present a by s_) (λ e. s_)) k.sound;
+      decrypts = each_map g is (λ a. Decrypts s.circuits a) (λ a. Decrypts s.circuits a)
+          (λ a m s_. either_one (λ b. Decrypts s.circuits b) (nat_eq a.id i.id) (record a { stage = Void by }) a (λ e. void_decrypts s.circuits a by) (λ e. s_)) k.decrypts;
       rounds = rounds_map g is later
-          (λ a first m second alive n d e. absurd (none_lives Rlk2 is a none m second (later_lives a (g a) (later a m) alive))) o.rounds;
+          (λ a first m second alive n d e. absurd (none_lives Rlk2 is a none m second (later_lives a (g a) (later a m) alive))) k.rounds;
     }
 
 -- ---- a party is lost
 
-module _ (f : Fixed) (present : ℕ) (circuits : List CircuitState) (is : List Instance) (o : Ordered f present circuits is) (p : ℕ) where
+module _ (f : Fixed) (s : State) (k : Kept f s) (p : ℕ) where
+  abbrev is : List Instance
+  is = s.instances
+
   -- the opened second round of a first one, which lacks the share of the lost party
   record Waits (first : Instance) : Type 0 where
     second : Instance
@@ -92,8 +96,8 @@ module _ (f : Fixed) (present : ℕ) (circuits : List CircuitState) (is : List I
     | inl lost ↦ inl (lacks_is p a lost).opened
     | inr second ↦
         let w = waits_is a second in
-        let h = o.rounds w.second w.within w.signature (opened_lives w.second w.waits.opened) in
-        let same_one : h.first ≡ a = one_number is h.first a o.numbered h.issued m (h.id ∙ w.round1) in
+        let h = k.rounds w.second w.within w.signature (opened_lives w.second w.waits.opened) in
+        let same_one : h.first ≡ a = one_number is h.first a k.numbered h.issued m (h.id ∙ w.round1) in
         inr (subst (λ (z : Instance). IsDone Rlk1 z) same_one (record { signature = h.signature; complete = h.complete }))
   ]
 
@@ -121,43 +125,45 @@ module _ (f : Fixed) (present : ℕ) (circuits : List CircuitState) (is : List I
       (false_from_ne_true (list_any (lacks_for p first.id) is) (λ l.
       let w = waits_is first l in
       let living : IsLive a = later_lives a (fallen p is a) (loss_later a m) alive in
-      let ids : w.second.id ≡ a.id = o.one w.second a w.within m (w.signature ∙ sym second) (opened_lives w.second w.waits.opened) living in
-      let it : w.second ≡ a = one_number is w.second a o.numbered w.within m ids in
+      let ids : w.second.id ≡ a.id = k.one w.second a w.within m (w.signature ∙ sym second) (opened_lives w.second w.waits.opened) living in
+      let it : w.second ≡ a = one_number is w.second a k.numbered w.within m ids in
       both_ways (falls p is a) (stands a alive) (falls_by a (subst (λ (z : Instance). Lacks p z) it w.waits))))
 
   first_complete : (a first : Instance) → Contains is a → a.signature ≡ Rlk2 → IsLive (fallen p is a) → Contains is first → IsDone Rlk1 first → first.id ≡ a.round1 → (fallen p is first).stage ≡ Complete
   first_complete a first m second alive n done e = rw (first_stands a first m second alive n done e) done.complete
 
-  loss_sound : (a : Instance) → Contains is a → 1 ≤ p → p ≤ 32 → IsSound f present a → IsSound f (without_party present p) (fallen p is a)
-  loss_sound a m first last s = either_one (λ b. IsSound f (without_party present p) b) (falls p is a) (record a { stage = Void p }) a
-      (λ e. void_sound f present (without_party present p) a p s)
+  loss_sound : (a : Instance) → Contains is a → 1 ≤ p → p ≤ 32 → IsSound f s.present a → IsSound f (without_party s.present p) (fallen p is a)
+  loss_sound a m first last x = either_one (λ b. IsSound f (without_party s.present p) b) (falls p is a) (record a { stage = Void p }) a
+      (λ e. void_sound f s.present (without_party s.present p) a p x)
       (λ e. record {
-        set = s.set;
-        parties = s.parties;
-        sent = s.sent;
-        senders = s.senders;
-        complete = s.complete;
-        opened = s.opened;
-        awaited = λ opened q member unsent. without_keeps present p q first last
+        set = x.set;
+        parties = x.parties;
+        sent = x.sent;
+        senders = x.senders;
+        complete = x.complete;
+        opened = x.opened;
+        awaited = λ opened q member unsent. without_keeps s.present p q first last
             (λ same_party. both_ways (falls p is a) e (falls_by a (record {
               opened = opened;
               member = subst (λ (z : ℕ). has a.set.bits z ≡ true) same_party member;
               unsent = subst (λ (z : ℕ). has a.sent.bits z ≡ false) same_party unsent;
             })))
-            (s.awaited opened q member unsent);
+            (x.awaited opened q member unsent);
       })
 
-  loss_decrypts : (a : Instance) → Decrypts circuits a → Decrypts circuits (fallen p is a)
-  loss_decrypts a s = either_one (λ b. Decrypts circuits b) (falls p is a) (record a { stage = Void p }) a (λ e. void_decrypts circuits a p) (λ e. s)
+  loss_decrypts : (a : Instance) → Decrypts s.circuits a → Decrypts s.circuits (fallen p is a)
+  loss_decrypts a x = either_one (λ b. Decrypts s.circuits b) (falls p is a) (record a { stage = Void p }) a (λ e. void_decrypts s.circuits a p) (λ e. x)
 
-  pub loss_ordered : 1 ≤ p → p ≤ 32 → Ordered f (without_party present p) circuits (after_loss p is)
+  pub loss_kept : 1 ≤ p → p ≤ 32 → Kept f (record s { present = without_party s.present p; instances = after_loss p s.instances })
   unfolding after_loss
-  loss_ordered first last =
+  loss_kept first last =
       let g = fallen p is in
       record {
-        numbered = numbered_map g is loss_later o.numbered;
-        one = one_map g is loss_later o.one;
-        sound = each_map g is (λ a. IsSound f present a) (λ a. IsSound f (without_party present p) a) (λ a m s. loss_sound a m first last s) o.sound;
-        decrypts = each_map g is (λ a. Decrypts circuits a) (λ a. Decrypts circuits a) (λ a m s. loss_decrypts a s) o.decrypts;
-        rounds = rounds_map g is loss_later first_complete o.rounds;
+        circuits = k.circuits;
+        given = k.given;
+        numbered = numbered_map g is loss_later k.numbered;
+        one = one_map g is loss_later k.one;
+        sound = each_map g is (λ a. IsSound f s.present a) (λ a. IsSound f (without_party s.present p) a) (λ a m x. loss_sound a m first last x) k.sound;
+        decrypts = each_map g is (λ a. Decrypts s.circuits a) (λ a. Decrypts s.circuits a) (λ a m x. loss_decrypts a x) k.decrypts;
+        rounds = rounds_map g is loss_later first_complete k.rounds;
       }

@@ -1,9 +1,9 @@
 -- Signatures, stages, and the instance with a number.
 use Rattle.std.proofs.Common.{◌≡◌, ◌∙◌, sym, ap, ap₂, refl, ℕ, zero, suc, ◌+◌, ◌-◌, Bool, true, false, not, nat_eq, ◌&&◌, cond, ◌⊎◌, inl, inr, List, length, get_or, Contains, Some, None, arith}
 use Rattle.std.specs.List.{slice_get}
-use Rattle.std.proofs.lemmas.Bool.{and_parts, and_from, eqb-true, eq-eqb, ne_eqb, eqb-false, cases_eq, both_ways, not_from_false, not-true}
+use Rattle.std.proofs.lemmas.Bool.{and_parts, and_from, eqb-true, eqb-false, eq-eqb, ne_eqb, cases_eq, both_ways, not_from_false, not-true}
 use Rattle.std.proofs.lemmas.List.{get_or_default}
-use Rattle.std.proofs.lemmas.Option.{slice_get_read, slice_get_within, get_or_from_slice_get}
+use Rattle.std.proofs.lemmas.Option.{slice_get_within, slice_get_read, get_or_from_slice_get}
 use Rattle.proto_names.specs.Names.{same, kind, subject, is_opened, is_complete, is_void}
 use Rattle.proto_names.specs.Instances.{instance, lives, is_done, lacks}
 use Rattle.share_spec.specs.Sets.{has}
@@ -137,29 +137,25 @@ instance_within is id i e =
     let got : slice_get is (id - 1) ≡ Some i = not_zero is id i (nat_eq id 0) e in
     (id - 1, slice_get_within is (id - 1) i got, get_or_from_slice_get is (id - 1) i i got)
 
--- an instance is found by its number
-pub instance_at : (is : List Instance) (i : Instance) → Numbered is → Contains is i → instance is i.id ≡ Some i
+pub instance_id : (is : List Instance) (id : ℕ) (i : Instance) → Numbered is → instance is id ≡ Some i → i.id ≡ id
 unfolding instance
-instance_at is i n m =
-    let at : i.id ≡ m.0 + 1 = numbered_at is i n m in
+instance_id is id i n e =
+    let got = slice_get_within is (id - 1) i (not_zero is id i (nat_eq id 0) e) in
+    let at = numbered_at is i n (id - 1, got, get_or_from_slice_get is (id - 1) i i (not_zero is id i (nat_eq id 0) e)) in
+    some_number (nat_eq id 0) refl e at
+  where
+    some_number : (b : Bool) → nat_eq id 0 ≡ b → cond b None (slice_get is (id - 1)) ≡ Some i → i.id ≡ id - 1 + 1 → i.id ≡ id
+    some_number true h f at = cc
+    some_number false h f at = let none = eqb-false id 0 h in elim (cases_eq id 0) [
+      | inl z ↦ absurd (none z)
+      | inr z ↦ omega arith
+    ]
+
+-- and the instance with its number is found
+pub found : (is : List Instance) (i : Instance) → Numbered is → Contains is i → instance is i.id ≡ Some i
+unfolding instance
+found is i n m =
+    let e = numbered_at is i n m in
     let some_ : nat_eq i.id 0 ≡ false = ne_eqb i.id 0 (λ z. absurd (omega arith)) in
     let place : i.id - 1 ≡ m.0 = omega arith in
     rw some_ (rw place (slice_get_read is (length is) m.0 i refl m.1 (sym m.2)))
-
-number_there : (is : List Instance) (id : ℕ) (i : Instance) → Numbered is → (b : Bool) → nat_eq id 0 ≡ b → cond b None (slice_get is (id - 1)) ≡ Some i → i.id ≡ id
-number_there is id i n true z e = cc
-number_there is id i n false z e =
-    let l = slice_get_within is (id - 1) i e in
-    let same = n (id - 1) i l in
-    let here : get_or is (id - 1) i ≡ i = get_or_from_slice_get is (id - 1) i i e in
-    let ids : i.id ≡ id - 1 + 1 = ap (λ (z : Instance). z.id) (sym here) ∙ same in
-    let some_ = eqb-false id 0 z in
-    elim (cases_eq id 0) [
-      | inl none ↦ absurd (some_ none)
-      | inr there ↦ omega arith
-    ]
-
--- its number is that
-pub instance_number : (is : List Instance) (id : ℕ) (i : Instance) → Numbered is → instance is id ≡ Some i → i.id ≡ id
-unfolding instance
-instance_number is id i n e = number_there is id i n (nat_eq id 0) refl e

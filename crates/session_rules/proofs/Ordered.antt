@@ -20,29 +20,6 @@ use Rattle.session_rules.proofs.Marks.{IsDone, none_lives}
 use Rattle.session_rules.proofs.Later.{later_lives}
 use Rattle.session_rules.proofs.PartySets.{has_nobody, outside_nobody}
 
--- ---- the facts about a list alone
-
-pub record Ordered (f : Fixed) (present : ℕ) (circuits : List CircuitState) (is : List Instance) : Type 0 where
-  pub numbered : Numbered is
-  pub one : OneLives is
-  pub sound : (i : Instance) → Contains is i → IsSound f present i
-  pub decrypts : (i : Instance) → Contains is i → Decrypts circuits i
-  pub rounds : (i : Instance) → Contains is i → i.signature ≡ Rlk2 → IsLive i → HasFirst is i
-
-pub ordered_in : (f : Fixed) (s : State) → Kept f s → Ordered f s.present s.circuits s.instances
-ordered_in f s k = record { numbered = k.numbered; one = k.one; sound = k.sound; decrypts = k.decrypts; rounds = k.rounds }
-
-pub kept_by : (f : Fixed) (s : State) → length s.circuits ≡ length f.plans → length s.given ≡ length f.plans → Ordered f s.present s.circuits s.instances → Kept f s
-kept_by f s circuits given o = record {
-  circuits = circuits;
-  given = given;
-  numbered = o.numbered;
-  one = o.one;
-  sound = o.sound;
-  decrypts = o.decrypts;
-  rounds = o.rounds;
-}
-
 -- ---- each instance has changed
 
 pub numbered_map : (g : Instance → Instance) (is : List Instance) → ((a : Instance) → Contains is a → IsSameLater a (g a)) → Numbered is → Numbered (map g is)
@@ -154,20 +131,23 @@ pub fresh_decrypts : (circuits : List CircuitState) (is : List Instance) (σ : S
 unfolding fresh
 fresh_decrypts circuits is σ parties round1 h = record { opened = λ c e o. h c e; complete = λ c e o. cc }
 
--- the list with a new one
-pub issue_ordered : (f : Fixed) (present : ℕ) (circuits : List CircuitState) (is : List Instance) (σ : Signature) (parties : PartySet) (round1 : ℕ) → Ordered f present circuits is
-    → has_live σ is ≡ false
-    → parties.bits < 2 ^ 32 → count parties.bits ≡ f.threshold → ((p : ℕ) → has parties.bits p ≡ true → has present p ≡ true)
-    → ((c : ℕ) → σ ≡ Dec c → circuit circuits c ≡ Evaluated)
-    → (σ ≡ Rlk2 → HasFirst is (fresh is σ parties round1))
-    → Ordered f present circuits (with_fresh is σ parties round1)
+-- the state with a new one
+pub issue_kept : (f : Fixed) (s : State) (σ : Signature) (parties : PartySet) (round1 : ℕ) → Kept f s
+    → has_live σ s.instances ≡ false
+    → parties.bits < 2 ^ 32 → count parties.bits ≡ f.threshold → ((p : ℕ) → has parties.bits p ≡ true → has s.present p ≡ true)
+    → ((c : ℕ) → σ ≡ Dec c → circuit s.circuits c ≡ Evaluated)
+    → (σ ≡ Rlk2 → HasFirst s.instances (fresh s.instances σ parties round1))
+    → Kept f (record s { instances = with_fresh s.instances σ parties round1 })
 unfolding fresh
-issue_ordered f present circuits is σ parties round1 o none small many there decrypts first =
+issue_kept f s σ parties round1 k none small many there decrypts first =
+    let is = s.instances in
     let i = fresh is σ parties round1 in
     record {
-      numbered = numbered_push is i refl o.numbered;
-      one = one_push is i none o.one;
-      sound = each_push is i (λ a. IsSound f present a) o.sound (fresh_sound f present is σ parties round1 small many there);
-      decrypts = each_push is i (λ a. Decrypts circuits a) o.decrypts (fresh_decrypts circuits is σ parties round1 decrypts);
-      rounds = rounds_push is i first o.rounds;
+      circuits = k.circuits;
+      given = k.given;
+      numbered = numbered_push is i refl k.numbered;
+      one = one_push is i none k.one;
+      sound = each_push is i (λ a. IsSound f s.present a) k.sound (fresh_sound f s.present is σ parties round1 small many there);
+      decrypts = each_push is i (λ a. Decrypts s.circuits a) k.decrypts (fresh_decrypts s.circuits is σ parties round1 decrypts);
+      rounds = rounds_push is i first k.rounds;
     }

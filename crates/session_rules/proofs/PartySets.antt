@@ -1,16 +1,17 @@
 -- Sets of parties with one more, with one less, and the least of them.
-use Rattle.std.proofs.Common.{◌≡◌, ◌∙◌, sym, ap, refl, ℕ, zero, suc, ◌+◌, ◌-◌, ◌*◌, ◌%◌, ◌^◌, ◌<◌, ◌≤◌, ◌≢◌, max, true, false, not, nat_eq, nat_le, ◌&&◌, ◌⊎◌, inl, inr, length, take, Contains, None, bit_or, bit_and, w32, arith}
+use Rattle.std.proofs.Common.{◌≡◌, ◌∙◌, sym, ap, refl, ℕ, zero, suc, ◌+◌, ◌-◌, ◌*◌, ◌%◌, ◌^◌, ◌<◌, ◌≤◌, ◌≢◌, max, Bool, true, false, not, nat_eq, nat_le, ◌&&◌, ◌⊎◌, inl, inr, length, take, Contains, None, bit_or, bit_and, w32, arith}
 use Rattle.std.specs.List.{range_with_len}
 use Rattle.std.specs.Int.{bit_at, bit_not}
 use Rattle.std.proofs.lemmas.Bool.{and_parts, and_from, and_cases, leb-true, le-leb, eqb-true, eq-eqb, cases_Bool, cases_eq, cases_lt, both_ways, not-false, false_from_ne_true}
 use Rattle.std.proofs.lemmas.Nat.{one_shl, or_of_32, and_le_l}
 use Rattle.std.proofs.lemmas.Nat.Bits.{bit_at_or, bit_at-lt, bit_at-pow_other, bit_at-pow_same, bit_at_clear_other, bit_at-zero}
 use Rattle.std.proofs.lemmas.List.{length-take}
+use Rattle.std.proofs.lemmas.List.Elements.{filter_agree}
 use Rattle.std.proofs.lemmas.List.Sums.{length-filter}
 use Rattle.share_spec.specs.Sets.{has, members_to, members, count}
-use Rattle.proto_names.specs.Groups.{with_party, without_party, least_of, is_outside, first_outside, number_outside}
+use Rattle.proto_names.specs.Groups.{with_party, without_party, set_of, least_of, is_outside, first_outside, number_outside}
 use Rattle.proto_names.proofs.Members.{Chosen, Chosen-start, Chosen-takes, Chosen-leaves, members_all}
-use Rattle.proto_names.proofs.Bits.{Chosen-least}
+use Rattle.proto_names.proofs.Bits.{set_of-members, Chosen-least}
 use Rattle.session_rules.proofs.Contained.{contains_of_taken, contains_filter_from, contains_filter, contains_range, find_none, count_zero, count_same}
 
 record Bit (set p : ℕ) : Type 0 where
@@ -126,6 +127,17 @@ outside_none set p = rw (has_nobody p) (elim (cases_Bool (has set p)) [
 pub outside_nobody : (set : ℕ) → number_outside set 0 ≡ count set
 unfolding number_outside members members_to
 outside_nobody set = count_same (is_outside set 0) (has set) (range_with_len 1 32) (outside_none set) ∙ sym (length-filter (has set) (range_with_len 1 32))
+
+truth : (x y : Bool) → (x ≡ true → y ≡ true) → (y ≡ true → x ≡ true) → x ≡ y
+truth true y h g = sym (h refl)
+truth false true h g = g refl
+truth false false h g = refl
+
+-- two sets with the same members are the same
+pub same_sets : (a b : ℕ) → a < 2 ^ 32 → b < 2 ^ 32 → ((p : ℕ) → has a p ≡ true → has b p ≡ true) → ((p : ℕ) → has b p ≡ true → has a p ≡ true) → a ≡ b
+unfolding members_to
+same_sets a b l m h g =
+    sym (set_of-members 32 a l (omega arith)) ∙ ap set_of (filter_agree (has a) (has b) (λ p. truth (has a p) (has b p) (h p) (g p)) (range_with_len 1 32)) ∙ set_of-members 32 b m (omega arith)
 
 -- ---- the least
 

@@ -10,16 +10,17 @@ use Rattle.proto_names.specs.declared.signature.Signature.{Signature}
 use Rattle.proto_names.specs.declared.signature.Signature.TheVariants.{Pk, Rlk1, Rlk2, Rot, Dec}
 use Rattle.proto_names.specs.declared.instance.Instance.{Instance}
 use Rattle.proto_names.specs.declared.instance.Stage.TheVariants.{Opened, Complete}
+use Rattle.session_rules.specs.declared.deed.Deed.TheVariants.{Counts}
 use Rattle.session_rules.specs.declared.state.CircuitState.{CircuitState}
 use Rattle.session_rules.specs.declared.state.CircuitState.TheVariants.{Answered}
 use Rattle.session_rules.specs.declared.fixed.Fixed.{Fixed}
-use Rattle.session_rules.specs.States.{circuit, is_refused}
-use Rattle.session_rules.specs.Steps.{answered_by}
-use Rattle.session_rules.specs.Facts.{IsLive, IsSameLater, IsSound, Decrypts}
+use Rattle.session_rules.specs.States.{State, circuit, is_refused}
+use Rattle.session_rules.specs.Deeds.{is_last, answered_by, changed}
+use Rattle.session_rules.specs.Facts.{IsLive, IsSameLater, IsSound, Decrypts, Kept}
 use Rattle.session_rules.proofs.Marks.{IsDone, one_number, opened_lives, live_cases}
 use Rattle.session_rules.proofs.PartySets.{has_party, with_keeps, with_cases, with_small, nobody_outside}
 use Rattle.session_rules.proofs.Later.{share_later, where_so, StayAdmitted, circuits_reflexive, set_admitted}
-use Rattle.session_rules.proofs.Ordered.{Ordered, numbered_map, one_map, each_map, rounds_map}
+use Rattle.session_rules.proofs.Ordered.{numbered_map, one_map, each_map, rounds_map}
 
 -- ---- a live instance that lacks a share is opened
 
@@ -77,11 +78,17 @@ answered_admitted (Dec c) circuits h = set_admitted circuits c Answered (h c ref
 
 -- ---- the share
 
-module _ (f : Fixed) (present : ℕ) (circuits : List CircuitState) (is : List Instance) (o : Ordered f present circuits is) (i : Instance) (p : ℕ)
-    (within : Contains is i) (opened : i.stage ≡ Opened) (member : has i.set.bits p ≡ true) (unsent : has i.sent.bits p ≡ false) where
+module _ (f : Fixed) (s : State) (k : Kept f s) (i : Instance) (p : ℕ)
+    (within : Contains s.instances i) (opened : i.stage ≡ Opened) (member : has i.set.bits p ≡ true) (unsent : has i.sent.bits p ≡ false) where
+  abbrev is : List Instance
+  is = s.instances
+
+  abbrev circuits : List CircuitState
+  circuits = s.circuits
+
   -- the instance with its number is itself
   itself : (a : Instance) → Contains is a → nat_eq a.id i.id ≡ true → i ≡ a
-  itself a m e = one_number is i a o.numbered within m (sym (eqb-true a.id i.id e))
+  itself a m e = one_number is i a k.numbered within m (sym (eqb-true a.id i.id e))
 
   pub share_all_later : (a : Instance) → Contains is a → IsSameLater a (counted_at i.id p a)
   share_all_later a m = where_so a (with_share p a) (nat_eq a.id i.id) (λ e. share_later a p (subst (λ (z : Instance). z.stage ≡ Opened) (itself a m e) opened))
@@ -94,21 +101,21 @@ module _ (f : Fixed) (present : ℕ) (circuits : List CircuitState) (is : List I
       at true e = subst (λ (z : Instance). P (with_share p z)) (itself a m e) its
       at false e = other e
 
-  share_sound : IsSound f present i → IsSound f present (with_share p i)
+  share_sound : IsSound f s.present i → IsSound f s.present (with_share p i)
   unfolding with_share missing
-  share_sound s =
+  share_sound x =
       let range = has_party i.set.bits p member in
       record {
-        set = s.set;
-        parties = s.parties;
-        sent = with_small i.sent.bits p s.sent range.1;
+        set = x.set;
+        parties = x.parties;
+        sent = with_small i.sent.bits p x.sent range.1;
         senders = λ q h. elim (with_cases i.sent.bits p q range.0 h) [
           | inl same_party ↦ subst (λ (z : ℕ). has i.set.bits z ≡ true) (sym same_party) member
-          | inr old ↦ s.senders q old
+          | inr old ↦ x.senders q old
         ];
         complete = λ e. done (number_outside i.set.bits (with_party i.sent.bits p)) e;
         opened = λ l e. more (number_outside i.set.bits (with_party i.sent.bits p)) e;
-        awaited = λ e q h n. s.awaited opened q h (false_from_ne_true (has i.sent.bits q) (λ old. both_ways (has (with_party i.sent.bits p) q) n (with_keeps i.sent.bits p q old)));
+        awaited = λ e q h n. x.awaited opened q h (false_from_ne_true (has i.sent.bits q) (λ old. both_ways (has (with_party i.sent.bits p) q) n (with_keeps i.sent.bits p q old)));
       }
     where
       by_zero : (n : ℕ) (b : Bool) → nat_eq n 0 ≡ b → (if b then Complete else Opened) ≡ Complete → n ≡ 0
@@ -129,8 +136,8 @@ module _ (f : Fixed) (present : ℕ) (circuits : List CircuitState) (is : List I
       more n e = by_one n (nat_eq n 0) refl e
 
   -- the circuits then
-  unfoldable pub counted_circuits : List CircuitState
-  counted_circuits = cond (nat_eq (missing p i) 0) (answered_by i.signature circuits) circuits
+  abbrev counted_circuits : List CircuitState
+  counted_circuits = cond (is_last p i) (answered_by i.signature circuits) circuits
 
   last_decrypts : nat_eq (missing p i) 0 ≡ true → (a : Instance) → Contains is a → Decrypts circuits a → Decrypts (answered_by i.signature circuits) (counted_at i.id p a)
   unfolding with_share
@@ -142,7 +149,7 @@ module _ (f : Fixed) (present : ℕ) (circuits : List CircuitState) (is : List I
       (λ differs. record {
         opened = λ c e waits. elim (decides_dec i.signature c) [
           | inl its ↦
-              let ids : a.id ≡ i.id = o.one a i m within (e ∙ sym its) (opened_lives a waits) (opened_lives i opened) in
+              let ids : a.id ≡ i.id = k.one a i m within (e ∙ sym its) (opened_lives a waits) (opened_lives i opened) in
               absurd (both_ways (nat_eq a.id i.id) differs (eq-eqb a.id i.id ids))
           | inr other ↦ answered_other i.signature circuits c other ∙ d.opened c e waits
         ];
@@ -153,13 +160,12 @@ module _ (f : Fixed) (present : ℕ) (circuits : List CircuitState) (is : List I
   unfolding with_share
   more_decrypts more a m d = by_test (λ z. Decrypts circuits z) a m
       (record {
-        opened = λ c e waits. (o.decrypts i within).opened c e opened;
+        opened = λ c e waits. (k.decrypts i within).opened c e opened;
         complete = λ c e (closed : (if nat_eq (missing p i) 0 then Complete else Opened) ≡ Complete). let open_still : (if nat_eq (missing p i) 0 then Complete else Opened) ≡ Opened = rw more refl in cc;
       })
       (λ differs. d)
 
   share_decrypts : (a : Instance) → Contains is a → Decrypts circuits a → Decrypts counted_circuits (counted_at i.id p a)
-  unfolding counted_circuits
   share_decrypts a m d = elim (cases_Bool (nat_eq (missing p i) 0)) [
     | inl last ↦ rw last (last_decrypts last a m d)
     | inr more ↦ rw more (more_decrypts more a m d)
@@ -172,21 +178,22 @@ module _ (f : Fixed) (present : ℕ) (circuits : List CircuitState) (is : List I
       at true e = let x = done.complete in let y : first.stage ≡ Opened = subst (λ (z : Instance). z.stage ≡ Opened) (itself first n e) opened in cc
       at false e = done.complete
 
-  pub share_ordered : Ordered f present counted_circuits (after_share i.id p is)
-  unfolding after_share
-  share_ordered =
-      let g = counted_at i.id p in
-      record {
-        numbered = numbered_map g is share_all_later o.numbered;
-        one = one_map g is share_all_later o.one;
-        sound = each_map g is (λ a. IsSound f present a) (λ a. IsSound f present a) (λ a m s. by_test (λ z. IsSound f present z) a m (share_sound (o.sound i within)) (λ _. s)) o.sound;
-        decrypts = each_map g is (λ a. Decrypts circuits a) (λ a. Decrypts counted_circuits a) share_decrypts o.decrypts;
-        rounds = rounds_map g is share_all_later share_first o.rounds;
-      }
-
   pub share_admitted : StayAdmitted circuits counted_circuits
-  unfolding counted_circuits
   share_admitted = elim (cases_Bool (nat_eq (missing p i) 0)) [
-    | inl last ↦ rw last (answered_admitted i.signature circuits (λ c e. rw ((o.decrypts i within).opened c e opened) refl))
+    | inl last ↦ rw last (answered_admitted i.signature circuits (λ c e. rw ((k.decrypts i within).opened c e opened) refl))
     | inr more ↦ rw more (circuits_reflexive circuits)
   ]
+
+  pub share_kept : Kept f (changed (Counts i p) s)
+  unfolding after_share changed
+  share_kept =
+      let g = counted_at i.id p in
+      record {
+        circuits = share_admitted.length ∙ k.circuits;
+        given = k.given;
+        numbered = numbered_map g is share_all_later k.numbered;
+        one = one_map g is share_all_later k.one;
+        sound = each_map g is (λ a. IsSound f s.present a) (λ a. IsSound f s.present a) (λ a m x. by_test (λ z. IsSound f s.present z) a m (share_sound (k.sound i within)) (λ _. x)) k.sound;
+        decrypts = each_map g is (λ a. Decrypts circuits a) (λ a. Decrypts counted_circuits a) share_decrypts k.decrypts;
+        rounds = rounds_map g is share_all_later share_first k.rounds;
+      }

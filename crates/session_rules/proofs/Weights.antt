@@ -16,16 +16,15 @@ use Rattle.proto_names.specs.declared.instance.Stage.TheVariants.{Opened, Comple
 use Rattle.session_rules.specs.declared.state.CircuitState.{CircuitState}
 use Rattle.session_rules.specs.declared.moves.Move.{Move}
 use Rattle.session_rules.specs.declared.fixed.Fixed.{Fixed}
-use Rattle.session_rules.specs.States.{has_live, has_done}
-use Rattle.session_rules.specs.Issues.{keys, wants_key, wants_relin, next_move, instances_after, least_present, moves_in, issued_in, most_moves, issue}
-use Rattle.session_rules.specs.Facts.{IsLive, IssueEnds}
+use Rattle.session_rules.specs.States.{State, has_live, has_done}
+use Rattle.session_rules.specs.Issues.{keys, wants_key, wants_relin, next_move, instances_after, moved, least_present, moves_in, moves, issued_in, most_moves, issue}
+use Rattle.session_rules.specs.Facts.{IsLive, Kept, IssueEnds, IssueIsItsMoves, MovesAreFew}
 use Rattle.session_rules.proofs.Contained.{contains_nil, contains_cases, contains_map, contains_map_from, any_false, any_from, any_none, any_true, contains_here, contains_there}
 use Rattle.session_rules.proofs.Marks.{lives_is, IsDone, done_is, done_from, same_self, one_number, lives_from, complete_lives, opened_lives}
 use Rattle.session_rules.proofs.MoveKinds.{MoveIs, gives_up, second, other, move_is, IsNeeded, key, decryption}
-use Rattle.session_rules.proofs.Ordered.{Ordered, ordered_in}
 use Rattle.session_rules.proofs.Later.{later_lives}
 use Rattle.session_rules.proofs.Losses.{give_up_later}
-use Rattle.session_rules.proofs.Keeps.{move_ordered}
+use Rattle.session_rules.proofs.Keeps.{move_kept}
 
 -- ---- how many pass a test
 
@@ -203,94 +202,88 @@ push_lowers f circuits is i none opened needed =
     add_up a b c l = omega arith
 
 -- none is complete where the complete first round is given up
-pub none_done : (f : Fixed) (present : ℕ) (circuits : List CircuitState) (is : List Instance) (i : Instance) (by : ℕ) → Ordered f present circuits is → Contains is i → IsDone Rlk1 i → has_done Rlk1 (after_void i.id by is) ≡ false
+pub none_done : (f : Fixed) (s : State) (i : Instance) (by : ℕ) → Kept f s → Contains s.instances i → IsDone Rlk1 i → has_done Rlk1 (after_void i.id by s.instances) ≡ false
 unfolding has_done after_void
-none_done f present circuits is i by o m d = any_none (is_done Rlk1) (map (given_up i.id by) is) (λ b n. false_from_ne_true (is_done Rlk1 b) (λ h.
-    let x = contains_map_from (given_up i.id by) is b n in
-    given_up_done is i by f present circuits o m d x.source x.within (subst (λ (z : Instance). IsDone Rlk1 z) (sym x.same) (done_is Rlk1 b h))))
+none_done f s i by k m d = any_none (is_done Rlk1) (map (given_up i.id by) s.instances) (λ b n. false_from_ne_true (is_done Rlk1 b) (λ h.
+    let x = contains_map_from (given_up i.id by) s.instances b n in
+    given_up_done f s i by k m d x.source x.within (subst (λ (z : Instance). IsDone Rlk1 z) (sym x.same) (done_is Rlk1 b h))))
   where
     void_done : (i a : Instance) (by : ℕ) → a.id ≡ i.id → IsDone Rlk1 (given_up i.id by a) → ⊥
     void_done i a by e d = let c : (if nat_eq a.id i.id then record a { stage = Void by } else a).stage ≡ Complete = d.complete in
         let v : Void by ≡ Complete = rw (eq-eqb a.id i.id e) at c in cc
 
-    given_up_done : (is : List Instance) (i : Instance) (by : ℕ) (f : Fixed) (present : ℕ) (circuits : List CircuitState) → Ordered f present circuits is → Contains is i → IsDone Rlk1 i → (a : Instance) → Contains is a → IsDone Rlk1 (given_up i.id by a) → ⊥
-    given_up_done is i by f present circuits o m d a n h =
-        let l = give_up_later is i by f present circuits o m d a n in
+    given_up_done : (f : Fixed) (s : State) (i : Instance) (by : ℕ) → Kept f s → Contains s.instances i → IsDone Rlk1 i → (a : Instance) → Contains s.instances a → IsDone Rlk1 (given_up i.id by a) → ⊥
+    given_up_done f s i by k m d a n h =
+        let l = give_up_later f s i by k m d a n in
         let mark : a.signature ≡ Rlk1 = sym l.signature ∙ h.signature in
-        let ids : a.id ≡ i.id = o.one a i n m (mark ∙ sym d.signature) (later_lives a (given_up i.id by a) l (complete_lives (given_up i.id by a) h.complete)) (complete_lives i d.complete) in
+        let ids : a.id ≡ i.id = k.one a i n m (mark ∙ sym d.signature) (later_lives a (given_up i.id by a) l (complete_lives (given_up i.id by a) h.complete)) (complete_lives i d.complete) in
         void_done i a by ids h
 
 -- and of no other signature one lives less
-lacks_more : (f : Fixed) (present : ℕ) (circuits : List CircuitState) (is : List Instance) (i : Instance) (by : ℕ) → Ordered f present circuits is → Contains is i → IsDone Rlk1 i
-    → (σ : Signature) → lacking (after_void i.id by is) σ ≡ true → (lacking is σ ≡ true) ⊎ (same Rlk1 σ ≡ true)
+lacks_more : (f : Fixed) (s : State) (i : Instance) (by : ℕ) → Kept f s → Contains s.instances i → IsDone Rlk1 i
+    → (σ : Signature) → lacking (after_void i.id by s.instances) σ ≡ true → (lacking s.instances σ ≡ true) ⊎ (same Rlk1 σ ≡ true)
 unfolding lacking after_void has_live
-lacks_more f present circuits is i by o m d σ h = elim (cases_Bool (list_any (lives σ) is)) [
-  | inr none ↦ inl (not_from_false (list_any (lives σ) is) none)
+lacks_more f s i by k m d σ h = elim (cases_Bool (list_any (lives σ) s.instances)) [
+  | inr none ↦ inl (not_from_false (list_any (lives σ) s.instances) none)
   | inl some_ ↦
-      let x = any_true (lives σ) is some_ in
+      let x = any_true (lives σ) s.instances some_ in
       at x.item x.within x.passes (nat_eq x.item.id i.id) refl
 ]
   where
-    at : (a : Instance) → Contains is a → lives σ a ≡ true → (b : Bool) → nat_eq a.id i.id ≡ b → (not (list_any (lives σ) is) ≡ true) ⊎ (same Rlk1 σ ≡ true)
+    at : (a : Instance) → Contains s.instances a → lives σ a ≡ true → (b : Bool) → nat_eq a.id i.id ≡ b → (not (list_any (lives σ) s.instances) ≡ true) ⊎ (same Rlk1 σ ≡ true)
     at a n p true e =
-        let it : a ≡ i = one_number is a i o.numbered n m (eqb-true a.id i.id e) in
+        let it : a ≡ i = one_number s.instances a i k.numbered n m (eqb-true a.id i.id e) in
         let mark : σ ≡ Rlk1 = sym (lives_is σ a p).0 ∙ ap (λ (z : Instance). z.signature) it ∙ d.signature in
         inr (rw mark (same_self Rlk1))
     at a n p false e =
         let stays : given_up i.id by a ≡ a = rw e refl in
-        let there : Contains (map (given_up i.id by) is) a = subst (λ (z : Instance). Contains (map (given_up i.id by) is) z) stays (contains_map (given_up i.id by) is a n) in
-        absurd (both_ways (lives σ a) (any_false (lives σ) (map (given_up i.id by) is) a (not-true (list_any (lives σ) (map (given_up i.id by) is)) h) there) p)
+        let there : Contains (map (given_up i.id by) s.instances) a = subst (λ (z : Instance). Contains (map (given_up i.id by) s.instances) z) stays (contains_map (given_up i.id by) s.instances a n) in
+        absurd (both_ways (lives σ a) (any_false (lives σ) (map (given_up i.id by) s.instances) a (not-true (list_any (lives σ) (map (given_up i.id by) s.instances)) h) there) p)
 
 it_is_done : (is : List Instance) (i : Instance) → Contains is i → IsDone Rlk1 i → has_done Rlk1 is ≡ true
 unfolding has_done
 it_is_done is i m d = any_from (is_done Rlk1) is i m (done_from Rlk1 i d)
 
-void_lowers : (f : Fixed) (present : ℕ) (circuits : List CircuitState) (is : List Instance) (i : Instance) (by : ℕ) → Ordered f present circuits is → Contains is i → IsDone Rlk1 i
-    → weight f circuits (after_void i.id by is) + 1 ≤ weight f circuits is
+void_lowers : (f : Fixed) (s : State) (i : Instance) (by : ℕ) → Kept f s → Contains s.instances i → IsDone Rlk1 i
+    → weight f s.circuits (after_void i.id by s.instances) + 1 ≤ weight f s.circuits s.instances
 unfolding weight
-void_lowers f present circuits is i by o m d =
-    let most = passing_at_most (lacking (after_void i.id by is)) (lacking is) (same Rlk1) (needs f circuits) (lacks_more f present circuits is i by o m d) in
-    add_up (length (filter (lacking (after_void i.id by is)) (needs f circuits))) (length (filter (lacking is) (needs f circuits))) (length (filter (same Rlk1) (needs f circuits)))
-    (has_done Rlk1 (after_void i.id by is)) (has_done Rlk1 is) most (one_first f circuits) (none_done f present circuits is i by o m d) (it_is_done is i m d)
+void_lowers f s i by k m d =
+    let most = passing_at_most (lacking (after_void i.id by s.instances)) (lacking s.instances) (same Rlk1) (needs f s.circuits) (lacks_more f s i by k m d) in
+    add_up (length (filter (lacking (after_void i.id by s.instances)) (needs f s.circuits))) (length (filter (lacking s.instances) (needs f s.circuits))) (length (filter (same Rlk1) (needs f s.circuits)))
+    (has_done Rlk1 (after_void i.id by s.instances)) (has_done Rlk1 s.instances) most (one_first f s.circuits) (none_done f s i by k m d) (it_is_done s.instances i m d)
   where
     add_up : (a b c : ℕ) (x y : Bool) → a ≤ b + c → c ≤ 1 → x ≡ false → y ≡ true → a + 2 * cond x 1 0 + 1 ≤ b + 2 * cond y 1 0
     add_up a b c x y l k e h = rw (e, h) (omega arith)
 
 -- each move lowers it
-lowers : (f : Fixed) (present : ℕ) (is : List Instance) (circuits : List CircuitState) (m : Move) → Ordered f present circuits is → MoveIs f present is circuits m
-    → weight f circuits (instances_after is m) + 1 ≤ weight f circuits is
-unfolding instances_after fresh
-lowers f present is circuits m o (gives_up i by none n d lost e) = rw e (void_lowers f present circuits is i by o n d)
-lowers f present is circuits m o (second i none n d all needed e) = rw e (push_lowers f circuits is (fresh is Rlk2 i.set i.id) none refl (needed_in f circuits Rlk2 needed))
-lowers f present is circuits m o (other σ no_second none many needed e) = rw e (push_lowers f circuits is (fresh is σ (least_present f present) 0) none refl (needed_in f circuits σ needed))
+lowers : (f : Fixed) (s : State) (m : Move) → Kept f s → MoveIs f s m → weight f s.circuits (moved s m).instances + 1 ≤ weight f s.circuits s.instances
+unfolding moved instances_after fresh
+lowers f s m k (gives_up i by none n d lost e) = rw e (void_lowers f s i by k n d)
+lowers f s m k (second i none n d all needed e) = rw e (push_lowers f s.circuits s.instances (fresh s.instances Rlk2 i.set i.id) none refl (needed_in f s.circuits Rlk2 needed))
+lowers f s m k (other σ no_second none many needed e) = rw e (push_lowers f s.circuits s.instances (fresh s.instances σ (least_present f s) 0) none refl (needed_in f s.circuits σ needed))
 
 -- ---- issuing ends
 
-none_left : (f : Fixed) (present : ℕ) (is : List Instance) (circuits : List CircuitState) → Ordered f present circuits is → weight f circuits is ≤ 0
-    → (o : Option Move) → next_move f present is circuits ≡ o → next_move f present is circuits ≡ None
-none_left f present is circuits o l None e = e
-none_left f present is circuits o l (Some m) e =
-    let less = lowers f present is circuits m o (move_is f present is circuits m e) in absurd (omega arith)
+none_left : (f : Fixed) (s : State) → Kept f s → weight f s.circuits s.instances ≤ 0 → (o : Option Move) → next_move f s ≡ o → next_move f s ≡ None
+none_left f s k l None e = e
+none_left f s k l (Some m) e = let less = lowers f s m k (move_is f s m e) in absurd (omega arith)
 
-ends_then : (n : ℕ) (f : Fixed) (present : ℕ) (is : List Instance) (circuits : List CircuitState)
-    → ((now : List Instance) → Ordered f present circuits now → weight f circuits now ≤ n → next_move f present (issued_in n f present now circuits) circuits ≡ None)
-    → Ordered f present circuits is → weight f circuits is ≤ suc n
-    → (m : Option Move) → next_move f present is circuits ≡ m
-    → next_move f present (elim m as (λ x. List Instance) [
-      | None ↦ is
-      | Some m ↦ issued_in n f present (instances_after is m) circuits
-    ]) circuits ≡ None
-ends_then n f present is circuits more o l None e = e
-ends_then n f present is circuits more o l (Some m) e =
-    let it = move_is f present is circuits m e in
-    let less = lowers f present is circuits m o it in
-    more (instances_after is m) (move_ordered f present is circuits m o it) (omega arith)
+ends_then : (n : ℕ) (f : Fixed) (s : State) → ((t : State) → Kept f t → weight f t.circuits t.instances ≤ n → next_move f (issued_in n f t) ≡ None)
+    → Kept f s → weight f s.circuits s.instances ≤ suc n → (o : Option Move) → next_move f s ≡ o → next_move f (elim o [
+      | None ↦ s
+      | Some m ↦ issued_in n f (moved s m)
+    ]) ≡ None
+unfolding moved
+ends_then n f s more k l None e = e
+ends_then n f s more k l (Some m) e =
+    let it = move_is f s m e in
+    let less = lowers f s m k it in
+    more (moved s m) (move_kept f s m k it) (omega arith)
 
-ends_in : (n : ℕ) (f : Fixed) (present : ℕ) (is : List Instance) (circuits : List CircuitState) → Ordered f present circuits is → weight f circuits is ≤ n
-    → next_move f present (issued_in n f present is circuits) circuits ≡ None
+ends_in : (n : ℕ) (f : Fixed) (s : State) → Kept f s → weight f s.circuits s.instances ≤ n → next_move f (issued_in n f s) ≡ None
 unfolding issued_in
-ends_in zero f present is circuits o l = none_left f present is circuits o l (next_move f present is circuits) refl
-ends_in (suc n) f present is circuits o l = ends_then n f present is circuits (λ now. ends_in n f present now circuits) o l (next_move f present is circuits) refl
+ends_in zero f s k l = none_left f s k l (next_move f s) refl
+ends_in (suc n) f s k l = ends_then n f s (ends_in n f) k l (next_move f s) refl
 
 -- after an issue no move is left
 pub issue_ends : IssueEnds
@@ -298,38 +291,44 @@ unfolding issue most_moves
 issue_ends f s k =
     let most = weight_most f s.circuits s.instances in
     let as_long = k.circuits in
-    ends_in (length (keys f) + length f.plans + 2) f s.present s.instances s.circuits (ordered_in f s k) (omega arith)
+    ends_in (length (keys f) + length f.plans + 2) f s k (omega arith)
 
 -- ---- the moves, one after the other
 
-folds_then : (n : ℕ) (f : Fixed) (present : ℕ) (is : List Instance) (circuits : List CircuitState)
-    → ((now : List Instance) → issued_in n f present now circuits ≡ fold instances_after now (moves_in n f present now circuits))
-    → (m : Option Move)
-    → (elim m as (λ x. List Instance) [
-      | None ↦ is
-      | Some m ↦ issued_in n f present (instances_after is m) circuits
-    ]) ≡ fold instances_after is (elim m as (λ x. List Move) [
+folds_then : (n : ℕ) (f : Fixed) (s : State) → ((t : State) → (issued_in n f t).instances ≡ fold instances_after t.instances (moves_in n f t)) → (o : Option Move)
+    → (elim o as (λ x. State) [
+      | None ↦ s
+      | Some m ↦ issued_in n f (moved s m)
+    ]).instances ≡ fold instances_after s.instances (elim o as (λ x. List Move) [
       | None ↦ []
-      | Some m ↦ m ∷ moves_in n f present (instances_after is m) circuits
+      | Some m ↦ m ∷ moves_in n f (moved s m)
     ])
-folds_then n f present is circuits more None = refl
-folds_then n f present is circuits more (Some m) = more (instances_after is m)
+unfolding moved
+folds_then n f s more None = refl
+folds_then n f s more (Some m) = more (moved s m)
 
 -- the instances after n steps are those after their moves
-pub issued_folds : (n : ℕ) (f : Fixed) (present : ℕ) (is : List Instance) (circuits : List CircuitState) → issued_in n f present is circuits ≡ fold instances_after is (moves_in n f present is circuits)
+issued_folds : (n : ℕ) (f : Fixed) (s : State) → (issued_in n f s).instances ≡ fold instances_after s.instances (moves_in n f s)
 unfolding issued_in moves_in
-issued_folds zero f present is circuits = refl
-issued_folds (suc n) f present is circuits = folds_then n f present is circuits (λ now. issued_folds n f present now circuits) (next_move f present is circuits)
+issued_folds zero f s = refl
+issued_folds (suc n) f s = folds_then n f s (issued_folds n f) (next_move f s)
 
-most_then : (n : ℕ) (f : Fixed) (present : ℕ) (is : List Instance) (circuits : List CircuitState) → ((now : List Instance) → length (moves_in n f present now circuits) ≤ n)
-    → (m : Option Move) → length (elim m as (λ x. List Move) [
-      | None ↦ []
-      | Some m ↦ m ∷ moves_in n f present (instances_after is m) circuits
-    ]) ≤ suc n
-most_then n f present is circuits more None = omega arith
-most_then n f present is circuits more (Some m) = let l = more (instances_after is m) in omega arith
+pub issue_is_its_moves : IssueIsItsMoves
+unfolding issue moves
+issue_is_its_moves f s = issued_folds (most_moves f) f s
 
-pub moves_at_most : (n : ℕ) (f : Fixed) (present : ℕ) (is : List Instance) (circuits : List CircuitState) → length (moves_in n f present is circuits) ≤ n
+most_then : (n : ℕ) (f : Fixed) (s : State) → ((t : State) → length (moves_in n f t) ≤ n) → (o : Option Move) → length (elim o as (λ x. List Move) [
+  | None ↦ []
+  | Some m ↦ m ∷ moves_in n f (moved s m)
+]) ≤ suc n
+most_then n f s more None = omega arith
+most_then n f s more (Some m) = let l = more (moved s m) in omega arith
+
+moves_at_most : (n : ℕ) (f : Fixed) (s : State) → length (moves_in n f s) ≤ n
 unfolding moves_in
-moves_at_most zero f present is circuits = omega arith
-moves_at_most (suc n) f present is circuits = most_then n f present is circuits (λ now. moves_at_most n f present now circuits) (next_move f present is circuits)
+moves_at_most zero f s = omega arith
+moves_at_most (suc n) f s = most_then n f s (moves_at_most n f) (next_move f s)
+
+pub moves_are_few : MovesAreFew
+unfolding moves
+moves_are_few f s = moves_at_most (most_moves f) f s

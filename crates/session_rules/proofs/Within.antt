@@ -13,19 +13,22 @@ use Rattle.proto_names.specs.declared.signature.Signature.TheVariants.{Pk, Rlk1,
 use Rattle.proto_names.specs.declared.sets.PartySet.{PartySet}
 use Rattle.proto_names.specs.declared.instance.Instance.{Instance}
 use Rattle.proto_names.specs.declared.instance.Stage.TheVariants.{Opened, Complete}
+use Rattle.session_rules.specs.declared.deed.Deed.TheVariants.{Counts}
+use Rattle.session_rules.specs.declared.state.CircuitState.{CircuitState}
 use Rattle.session_rules.specs.declared.state.CircuitState.TheVariants.{Evaluated, Answered}
 use Rattle.session_rules.specs.declared.fixed.Fixed.{Fixed}
 use Rattle.session_rules.specs.States.{State, circuit, plan, is_given, has_live, has_done}
 use Rattle.session_rules.specs.Issues.{issue}
-use Rattle.session_rules.specs.Steps.{is_input, answered_by}
+use Rattle.session_rules.specs.Deeds.{is_last, answered_by, with_input, changed}
+use Rattle.session_rules.specs.Steps.{is_input}
 use Rattle.session_rules.specs.Facts.{is_settled, IsLive, IsSameLater, Kept, IsLater, IsAtRest}
-use Rattle.session_rules.proofs.Changes.{counts, after_count, issue_goes}
+use Rattle.session_rules.proofs.Stepwise.{issue_beside}
 use Rattle.session_rules.proofs.Contained.{contains_map, contains_map_from}
 use Rattle.session_rules.proofs.Marks.{IsDone, instance_within, one_number, numbered_at, opened_lives}
 use Rattle.session_rules.proofs.MoveKinds.{IsNeeded, key, decryption}
 use Rattle.session_rules.proofs.Later.{share_later, later_reflexive, later_transitive}
-use Rattle.session_rules.proofs.Shares.{lacking_opened, decides_dec, answered_other, answered_its}
-use Rattle.session_rules.proofs.Keeps.{Anybody, change_next}
+use Rattle.session_rules.proofs.Shares.{decides_dec, answered_other, answered_its}
+use Rattle.session_rules.proofs.Keeps.{Waits, count_next, issue_next}
 use Rattle.session_rules.proofs.Deliveries.{keys_stay}
 use Rattle.session_rules.proofs.Weights.{issue_ends}
 use Rattle.session_rules.proofs.Issued.{live_one, live_from, done_one, done_here, not_before, condition_second, condition_other, decides_second, decides_first, IsWithin, Owes, IsFirm, stayed, lapsed, came, rest_owes, rest_firm, issue_stems}
@@ -125,25 +128,23 @@ fits_later X f base s fits r = record {
 
 -- ---- issuing
 
-pub issue_within : (X : Signature → Type 0) (f : Fixed) (base s : State) → Reached X f base s → Owes X f s.present s.circuits s.instances → (IsFirm s.present s.instances) ⊎ X Rlk1 → Within X f base (issue f s)
-unfolding issue
+pub issue_within : (X : Signature → Type 0) (f : Fixed) (base s : State) → Reached X f base s → Owes X f s → (IsFirm s) ⊎ X Rlk1 → Within X f base (issue f s)
 issue_within X f base s r owes firm =
-    let goes = issue_goes f Anybody 0 (Kept f) IsLater later_reflexive later_transitive (change_next 0 f) s r.kept in
+    let next = issue_next f s r.kept in
+    let beside = issue_beside f s in
     let stems = issue_stems X f s r.kept owes firm in
-    let l = r.later in
-    let longer = l.issued in
     record {
       reached = record {
-        kept = goes.0;
-        later = later_transitive base s (issue f s) r.later goes.1;
-        present = r.present;
+        kept = next.0;
+        later = later_transitive base s (issue f s) r.later next.1;
+        present = beside.present ∙ r.present;
         brought = λ i m alive new. elim (stems i m) [
           | stayed there ↦ r.brought i there alive new
           | lapsed void ↦ absurd (both_ways (is_void i.stage) alive void)
           | came it ↦ (it.may, λ p h. subst (λ (z : ℕ). has z p ≡ true) r.present (it.within p h))
         ];
-        turned = r.turned;
-        given = given_later f base s (issue f s) goes.1 refl r.given;
+        turned = subst (λ (z : List CircuitState). (c : ℕ) → (circuit z c ≡ circuit base.circuits c) ⊎ (is_settled (circuit z c) ≡ true)) (sym beside.circuits) r.turned;
+        given = given_later f base s (issue f s) next.1 beside.given r.given;
       };
       rest = issue_ends f s r.kept;
     }
@@ -196,35 +197,39 @@ lives_on is i p σ same_ opened h =
     alive a true h = share_lives p a
     alive a false h = h
 
-module _ (X : Signature → Type 0) (f : Fixed) (base s : State) (w : Within X f base s) (fits : Fits X s) (id p : ℕ) (i : Instance)
-    (found : instance s.instances id ≡ Some i) (member : has i.set.bits p ≡ true) (alive : IsLive i) (unsent : has i.sent.bits p ≡ false) where
+module _ (X : Signature → Type 0) (f : Fixed) (base s : State) (w : Within X f base s) (fits : Fits X s) (i : Instance) (p : ℕ) (its : Waits s i p) where
   abbrev counted_state : State
-  counted_state = after_count i p s
+  counted_state = changed (Counts i p) s
 
   there : Contains s.instances i
-  there = instance_within s.instances id i found
+  there = its.within
 
   opened : i.stage ≡ Opened
-  opened = lacking_opened f s.present i p (w.reached.kept.sound i there) alive member unsent
+  opened = its.opened
+
+  alive : IsLive i
+  alive = opened_lives i opened
 
   same_one : (a : Instance) → Contains s.instances a → a.id ≡ i.id → a ≡ i
   same_one a m e = one_number s.instances a i w.reached.kept.numbered m there e
 
   -- the circuit of a decryption was evaluated
   circuit_then : (c : ℕ) → (circuit counted_state.circuits c ≡ circuit s.circuits c) ⊎ (circuit counted_state.circuits c ≡ Answered)
-  circuit_then c = at (nat_eq (missing p i) 0)
+  unfolding changed
+  circuit_then c = at (is_last p i)
     where
       at : (b : Bool) → (circuit (cond b (answered_by i.signature s.circuits) s.circuits) c ≡ circuit s.circuits c) ⊎ (circuit (cond b (answered_by i.signature s.circuits) s.circuits) c ≡ Answered)
       at true = elim (decides_dec i.signature c) [
-        | inl its ↦ inr (answered_its i.signature s.circuits c its)
+        | inl mark ↦ inr (answered_its i.signature s.circuits c mark)
         | inr none ↦ inl (answered_other i.signature s.circuits c none)
       ]
       at false = inl refl
 
   pub count_reached : Reached X f base counted_state
+  unfolding changed
   count_reached =
       let r = w.reached in
-      let next = change_next 0 f s counted_state r.kept (counts id p i found member alive unsent refl) in
+      let next = count_next f s i p its r.kept in
       record {
         kept = next.0;
         later = later_transitive base s counted_state r.later next.1;
@@ -233,9 +238,9 @@ module _ (X : Signature → Type 0) (f : Fixed) (base s : State) (w : Within X f
           | itself e ↦
               let l = share_later i p opened in
               let ids : j.id ≡ i.id = ap (λ (z : Instance). z.id) e ∙ l.id in
-              let its = r.brought i there alive (subst (λ (z : ℕ). length base.instances < z) ids new) in (
-                subst X (sym (ap (λ (z : Instance). z.signature) e ∙ l.signature)) its.0,
-                λ q h. its.1 q (subst (λ (z : PartySet). has z.bits q ≡ true) (ap (λ (z : Instance). z.set) e ∙ l.set) h),
+              let was = r.brought i there alive (subst (λ (z : ℕ). length base.instances < z) ids new) in (
+                subst X (sym (ap (λ (z : Instance). z.signature) e ∙ l.signature)) was.0,
+                λ q h. was.1 q (subst (λ (z : PartySet). has z.bits q ≡ true) (ap (λ (z : Instance). z.set) e ∙ l.set) h),
               )
           | another n apart ↦ r.brought j n living new
         ];
@@ -251,8 +256,8 @@ module _ (X : Signature → Type 0) (f : Fixed) (base s : State) (w : Within X f
 
   needed_before : (σ : Signature) → IsNeeded f counted_state.circuits σ → IsNeeded f s.circuits σ
   needed_before σ (key m) = key m
-  needed_before σ (decryption c its m evaluated) = elim (circuit_then c) [
-    | inl e ↦ decryption c its (subst (λ (z : ℕ). Contains (range_with_len 0 z) c) many m) (sym e ∙ evaluated)
+  needed_before σ (decryption c mark m evaluated) = elim (circuit_then c) [
+    | inl e ↦ decryption c mark (subst (λ (z : ℕ). Contains (range_with_len 0 z) c) many m) (sym e ∙ evaluated)
     | inr e ↦ let n : Answered ≡ Evaluated = sym e ∙ evaluated in cc
   ]
     where
@@ -261,34 +266,37 @@ module _ (X : Signature → Type 0) (f : Fixed) (base s : State) (w : Within X f
 
   -- a complete first round is that one, or was complete before
   done_before : (j : Instance) → Contains counted_state.instances j → IsDone Rlk1 j → ((Contains s.instances j) ⊎ ((j ≡ with_share p i) × (i.signature ≡ Rlk1)))
+  unfolding changed
   done_before j m d = elim (counted_from s.instances i j p same_one m) [
     | another n apart ↦ inl n
     | itself e ↦ inr (e, sym (ap (λ (z : Instance). z.signature) e ∙ (share_later i p opened).signature) ∙ d.signature)
   ]
 
-  count_owes : Owes X f counted_state.present counted_state.circuits counted_state.instances
+  count_owes : Owes X f counted_state
+  unfolding changed
   count_owes σ needed none stands =
       let none_ = not_before (has_live σ s.instances) (has_live σ counted_state.instances) (lives_on s.instances i p σ same_one opened) none in
       let none_owed = rest_owes f s w.rest σ (needed_before σ needed) none_ in
       elim (decides_second σ) [
-        | inr n ↦ absurd (none_owed (condition_other f s.present s.instances σ n ∙ sym (condition_other f s.present counted_state.instances σ n) ∙ stands))
+        | inr n ↦ absurd (none_owed (condition_other f s σ n ∙ sym (condition_other f counted_state σ n) ∙ stands))
         | inl e ↦
-            let d = done_one Rlk1 counted_state.instances (sym (condition_second f s.present counted_state.instances σ e) ∙ stands) in
+            let d = done_one Rlk1 counted_state.instances (sym (condition_second f counted_state σ e) ∙ stands) in
             elim (done_before d.item d.within d.done) [
-              | inl n ↦ absurd (none_owed (condition_second f s.present s.instances σ e ∙ done_here Rlk1 s.instances d.item n d.done))
-              | inr its ↦ subst X (sym e) (fits.second i there opened its.1)
+              | inl n ↦ absurd (none_owed (condition_second f s σ e ∙ done_here Rlk1 s.instances d.item n d.done))
+              | inr done ↦ subst X (sym e) (fits.second i there opened done.1)
             ]
       ]
 
-  count_firm : (i.signature ≡ Rlk1 → IsWithin s.present i) → IsFirm counted_state.present counted_state.instances
-  count_firm its j m d none =
+  count_firm : (i.signature ≡ Rlk1 → IsWithin s.present i) → IsFirm counted_state
+  unfolding changed
+  count_firm all j m d none =
       let none_ = not_before (has_live Rlk2 s.instances) (has_live Rlk2 counted_state.instances) (lives_on s.instances i p Rlk2 same_one opened) none in
       elim (done_before j m d) [
         | inl n ↦ rest_firm f s w.reached.kept w.rest j n d none_
-        | inr it ↦ λ q h. its it.1 q (subst (λ (z : PartySet). has z.bits q ≡ true) (ap (λ (z : Instance). z.set) it.0 ∙ (share_later i p opened).set) h)
+        | inr it ↦ λ q h. all it.1 q (subst (λ (z : PartySet). has z.bits q ≡ true) (ap (λ (z : Instance). z.set) it.0 ∙ (share_later i p opened).set) h)
       ]
 
-  count_firm_or : (IsFirm counted_state.present counted_state.instances) ⊎ X Rlk1
+  count_firm_or : (IsFirm counted_state) ⊎ X Rlk1
   count_firm_or = elim (decides_first i.signature) [
     | inr n ↦ inl (count_firm (λ e. absurd (n e)))
     | inl first ↦ elim (fits.first i there opened first) [

@@ -1,10 +1,11 @@
 -- What holds of the rules, whatever is called.
-use Rattle.std.specs.Prelude.{◌≡◌, ◌≢◌, ℕ, ◌+◌, ◌*◌, ◌^◌, ◌<◌, ◌≤◌, Bool, true, false, ◌||◌, List, [], ◌∷◌, ◌++◌, length, Some, None, ⊤}
+use Rattle.std.specs.Prelude.{◌≡◌, ◌≢◌, ℕ, ◌+◌, ◌*◌, ◌^◌, ◌<◌, ◌≤◌, Bool, true, false, ◌||◌, List, [], ◌∷◌, ◌++◌, length, Some, None, ⊤, ◌↔◌}
 use Rattle.std.specs.List.{slice_index_or, Contains, fold}
 use Rattle.share_spec.specs.Sets.{has, count}
 use Rattle.proto_names.specs.Names.{is_void, rows_of}
 use Rattle.proto_names.specs.Groups.{number_outside}
 use Rattle.proto_names.specs.Instances.{instance}
+use Rattle.noise_ledger.specs.declared.over.Place.{Place}
 use Rattle.proto_names.specs.declared.signature.Signature.{Signature}
 use Rattle.proto_names.specs.declared.signature.Signature.TheVariants.{Rlk1, Rlk2, Dec}
 use Rattle.proto_names.specs.declared.instance.Instance.{Instance}
@@ -18,14 +19,16 @@ use Rattle.session_rules.specs.declared.call.Entry.{Entry}
 use Rattle.session_rules.specs.declared.reply.Reply.{Reply}
 use Rattle.session_rules.specs.declared.reply.Reply.TheVariants as reply
 use Rattle.session_rules.specs.declared.reply.Reply.TheVariants.{Joined, Left, Counted, Completed, Given, Job, Finished, Returned}
-use Rattle.session_rules.specs.States.{State, circuit, is_given, is_refused, is_evaluated, is_answered, has_done}
+use Rattle.session_rules.specs.States.{State, plan, circuit, is_given, is_refused, is_evaluated, is_answered, has_done}
+use Rattle.session_rules.specs.declared.deed.Deed.TheVariants.{Nothing, Counts}
 use Rattle.session_rules.specs.Issues.{next_move, instances_after, moves, most_moves, issue}
-use Rattle.session_rules.specs.Steps.{counted, deliver, step}
+use Rattle.session_rules.specs.Deeds.{done}
+use Rattle.session_rules.specs.Steps.{says, does, counted, deliver, judge, step}
 use Rattle.session_rules.specs.Histories.{after, state_after, IsLegal}
 
 -- ---- calls
 
--- who joins is one of the parties up to 32; and so in a list of calls
+-- who joins has a number up to 32; and so in a list of calls
 abbrev pub JoinsParty : Call → Type 0
 JoinsParty (call.Join p) = p ≤ 32
 JoinsParty _ = ⊤
@@ -47,10 +50,6 @@ accepts (Job circuit) = true
 accepts Finished = true
 accepts Returned = true
 accepts _ = false
-
--- all other replies leave it as it was
-abbrev pub Refuses : State → Reply × State → Type 0
-Refuses s said = accepts said.0 ≡ false → said.1 ≡ s
 
 -- ---- what holds in every state that calls lead to
 
@@ -140,9 +139,12 @@ pub record IsLater (before now : State) : Type 0 where
 
 -- ---- the laws
 
--- a reply that refuses leaves the state as it was
-abbrev pub RefusalsChangeNothing : Type 0
-RefusalsChangeNothing = (f : Fixed) (s : State) (caller : ℕ) (c : Call) → Refuses s (step f s caller c)
+-- all other replies go with nothing that is done, and that leaves the state as it was
+abbrev pub RefusalsDoNothing : Type 0
+RefusalsDoNothing = (f : Fixed) (s : State) (caller : ℕ) (c : Call) → accepts (judge f s caller c).reply ≡ false → (judge f s caller c).deed ≡ Nothing
+
+abbrev pub NothingIsDone : Type 0
+NothingIsDone = (f : Fixed) (s : State) → done f Nothing s ≡ s
 
 -- what holds at first is kept by every call, whatever it is and whoever makes it
 abbrev pub CallsKeep : Type 0
@@ -186,7 +188,7 @@ TakenStays = (f : Fixed) (s : State) (caller who : ℕ) (c : Call) (circuit_ : �
 
 -- neither rule of issue applies
 abbrev pub IsAtRest : Fixed → State → Type 0
-IsAtRest f s = next_move f s.present s.instances s.circuits ≡ None
+IsAtRest f s = next_move f s ≡ None
 
 -- issuing ends: then neither rule applies, after at most as many moves as are allowed, which are made
 -- one after the other
@@ -215,21 +217,25 @@ pub record TakesPart (s : State) (id p : ℕ) (i : Instance) : Type 0 where
 -- where it hasn't sent, the instance is opened; a share of the right length is counted
 abbrev pub SharesAreWanted : Type 0
 SharesAreWanted = (f : Fixed) (s : State) (id p : ℕ) (i : Instance) → Kept f s → TakesPart s id p i → has i.sent.bits p ≡ false
-    → (i.stage ≡ Opened) × (deliver f s id p (rows_of i.signature f.rows) ≡ counted f s i p)
+    → (i.stage ≡ Opened) × (deliver f s id p (rows_of i.signature f.rows) ≡ does (counted p i) (Counts i p))
 
 -- and one of another length is not
 abbrev pub ShapesAreRefused : Type 0
 ShapesAreRefused = (f : Fixed) (s : State) (id p rows : ℕ) (i : Instance) → TakesPart s id p i → has i.sent.bits p ≡ false → rows_of i.signature f.rows ≢ rows
-    → deliver f s id p rows ≡ (reply.Shape (rows_of i.signature f.rows) rows, s)
+    → deliver f s id p rows ≡ says (reply.Shape (rows_of i.signature f.rows) rows)
 
 -- where it has, the share is a repeat; and so it is at a complete instance
 abbrev pub SharesAreCountedOnce : Type 0
 SharesAreCountedOnce = (f : Fixed) (s : State) (id p rows : ℕ) (i : Instance) → TakesPart s id p i → has i.sent.bits p ≡ true
-    → deliver f s id p rows ≡ (reply.Repeat, s)
+    → deliver f s id p rows ≡ says reply.Repeat
 
 abbrev pub CompleteOnesLackNone : Type 0
 CompleteOnesLackNone = (f : Fixed) (s : State) (id p rows : ℕ) (i : Instance) → Kept f s → TakesPart s id p i → i.stage ≡ Complete
-    → deliver f s id p rows ≡ (reply.Repeat, s)
+    → deliver f s id p rows ≡ says reply.Repeat
+
+-- those who sent to a complete instance are exactly its parties
+abbrev pub CompleteOnesHaveAll : Type 0
+CompleteOnesHaveAll = (f : Fixed) (s : State) (i : Instance) → Kept f s → Contains s.instances i → i.stage ≡ Complete → i.sent ≡ i.set
 
 -- few instances are issued: a call issues at most as many as there are moves
 abbrev pub FewAreIssued : Type 0
@@ -271,3 +277,22 @@ NoneBy who (e ∷ es) = (who ≢ e.caller) × NoneBy who es
 abbrev pub TakenStaysOn : Type 0
 TakenStaysOn = (f : Fixed) (es more : List Entry) (who circuit_ : ℕ) → NoneBy who more
     → circuit (state_after f es).circuits circuit_ ≡ Taken who → circuit (state_after f (es ++ more)).circuits circuit_ ≡ Taken who
+
+-- an instance to which all its parties have sent, as many as act together; the circuit whose decryption it is
+-- is answered
+pub record HasAll (f : Fixed) (s : State) (id : ℕ) : Type 0 where
+  pub item : Instance
+  pub issued : instance s.instances id ≡ Some item
+  pub sent : item.sent ≡ item.set
+  pub parties : count item.set.bits ≡ f.threshold
+  pub answered : (c : ℕ) → item.signature ≡ Dec c → circuit s.circuits c ≡ Answered
+
+-- so it is from the entry on that completes it, whatever becomes of it later
+abbrev pub CompletedOnesHaveAll : Type 0
+CompletedOnesHaveAll = (f : Fixed) (es more : List Entry) (e : Entry) (id p rows : ℕ) → IsLegal f (es ++ e ∷ more) → e.call ≡ call.Deliver id p rows → e.reply ≡ Completed
+    → HasAll f (state_after f (es ++ e ∷ more)) id
+
+-- the refused circuits are those that began so
+abbrev pub RefusedOnesBeganSo : Type 0
+RefusedOnesBeganSo = (f : Fixed) (es : List Entry) (c : ℕ) (place : Place) (bound limit : ℕ)
+    → (circuit (state_after f es).circuits c ≡ Refused place bound limit) ↔ ((plan f c).opening ≡ Refused place bound limit)

@@ -1,4 +1,4 @@
--- What more holds in every state that calls lead to, and what settling one comes to.
+-- What more holds in every state that calls lead to; and how it is where a session is settled.
 use Rattle.std.specs.Prelude.{◌≡◌, ◌≢◌, ℕ, ◌<◌, ◌≤◌, true, false, ◌⊎◌, List, [], length}
 use Rattle.std.specs.List.{slice_index_or, list_all, Contains}
 use Rattle.share_spec.specs.Sets.{has, count}
@@ -17,6 +17,8 @@ use Rattle.session_rules.specs.Steps.{is_input, is_given_input, has_keys, step}
 use Rattle.session_rules.specs.Fixing.{fixed_of}
 use Rattle.session_rules.specs.Histories.{state_after}
 use Rattle.session_rules.specs.Facts.{is_begun, Kept}
+
+-- ---- what more holds in every state that calls lead to
 
 -- the inputs of a circuit have a place each; a public key is complete where one is given; a circuit that is
 -- begun has its inputs and its keys; each instance is of a key or a decryption; and the refused circuits

@@ -10,7 +10,6 @@ use Rattle.proto_names.specs.declared.signature.Signature.{Signature}
 use Rattle.proto_names.specs.declared.signature.Signature.TheVariants.{Pk, Rlk1, Rlk2, Rot, Dec}
 use Rattle.proto_names.specs.declared.sets.PartySet.{PartySet}
 use Rattle.proto_names.specs.declared.instance.Instance.{Instance}
-use Rattle.session_rules.specs.declared.state.CircuitState.{CircuitState}
 use Rattle.session_rules.specs.declared.moves.Move.{Move}
 use Rattle.session_rules.specs.declared.moves.Move.TheVariants.{GiveUp, Issue}
 use Rattle.session_rules.specs.declared.fixed.Plan.{Plan}
@@ -34,62 +33,60 @@ keys f =
     ++ cond (list_any wants_relin f.plans) (Rlk1 ∷ Rlk2 ∷ []) []
     ++ map Rot f.turns
 
--- ---- when it may be issued: it depends on who is present, on the instances, and on the circuits
+-- ---- when it may be issued
 
 -- whether at least T parties are present
-unfoldable pub enough : Fixed → ℕ → Bool
-enough f present = nat_le f.threshold (count present)
+unfoldable pub enough : Fixed → State → Bool
+enough f s = nat_le f.threshold (count s.present)
 
 -- a second round wants a complete first one; all else wants T parties
-unfoldable pub condition : Fixed → ℕ → List Instance → Signature → Bool
-condition f present is σ = cond (same σ Rlk2) (has_done Rlk1 is) (enough f present)
+unfoldable pub condition : Fixed → State → Signature → Bool
+condition f s σ = cond (same σ Rlk2) (has_done Rlk1 s.instances) (enough f s)
 
 -- no instance of a signature is opened or complete, and its condition stands
-unfoldable pub may_issue : Fixed → ℕ → List Instance → Signature → Bool
-may_issue f present is σ = not (has_live σ is) && condition f present is σ
+unfoldable pub may_issue : Fixed → State → Signature → Bool
+may_issue f s σ = not (has_live σ s.instances) && condition f s σ
 
 -- the decryption of an evaluated circuit is needed
-unfoldable pub may_decrypt : Fixed → ℕ → List Instance → List CircuitState → ℕ → Bool
-may_decrypt f present is circuits c = is_evaluated (circuit circuits c) && may_issue f present is (Dec c)
+unfoldable pub may_decrypt : Fixed → State → ℕ → Bool
+may_decrypt f s c = is_evaluated (circuit s.circuits c) && may_issue f s (Dec c)
 
-unfoldable pub next_decryption : Fixed → ℕ → List Instance → List CircuitState → Option Signature
-next_decryption f present is circuits =
-    option_map Dec (find (may_decrypt f present is circuits) (range_with_len 0 (length circuits)))
+unfoldable pub next_decryption : Fixed → State → Option Signature
+next_decryption f s = option_map Dec (find (may_decrypt f s) (range_with_len 0 (length s.circuits)))
 
 -- the first signature that is needed and may be issued: the keys, then decryptions by rising circuit
-unfoldable pub next_signature : Fixed → ℕ → List Instance → List CircuitState → Option Signature
-next_signature f present is circuits =
-    option_or (find (may_issue f present is) (keys f)) (next_decryption f present is circuits)
+unfoldable pub next_signature : Fixed → State → Option Signature
+next_signature f s = option_or (find (may_issue f s) (keys f)) (next_decryption f s)
 
 -- ---- one step
 
--- rule 1: a complete first round without a second one is given up by the least of its parties that is
+-- rule 1: a complete first round without an opened or complete second one is given up by the least of its parties that is
 -- absent
-unfoldable pub outdated : ℕ → Instance → Option Move
-outdated present i = option_map (GiveUp i.id) (first_outside i.set.bits present)
+unfoldable pub outdated : State → Instance → Option Move
+outdated s i = option_map (GiveUp i.id) (first_outside i.set.bits s.present)
 
-unfoldable pub rule_1 : ℕ → List Instance → Option Move
-rule_1 present is = if has_live Rlk2 is then None else option_and_then (outdated present) (find (is_done Rlk1) is)
+unfoldable pub rule_1 : State → Option Move
+rule_1 s = if has_live Rlk2 s.instances then None else option_and_then (outdated s) (find (is_done Rlk1) s.instances)
 
 -- rule 2: the next signature is issued. A second round has the set of its first, all else the T least
 -- parties that are present
 abbrev pub second_round : Instance → Move
 second_round i = Issue Rlk2 i.set i.id
 
-unfoldable pub least_present : Fixed → ℕ → PartySet
-least_present f present = record { bits = least_of f.threshold present }
+unfoldable pub least_present : Fixed → State → PartySet
+least_present f s = record { bits = least_of f.threshold s.present }
 
-unfoldable pub issued_as : Fixed → ℕ → List Instance → Signature → Option Move
-issued_as f present is σ =
-    if same σ Rlk2 then option_map second_round (find (is_done Rlk1) is)
-    else Some (Issue σ (least_present f present) 0)
+unfoldable pub issued_as : Fixed → State → Signature → Option Move
+issued_as f s σ =
+    if same σ Rlk2 then option_map second_round (find (is_done Rlk1) s.instances)
+    else Some (Issue σ (least_present f s) 0)
 
-unfoldable pub rule_2 : Fixed → ℕ → List Instance → List CircuitState → Option Move
-rule_2 f present is circuits = option_and_then (issued_as f present is) (next_signature f present is circuits)
+unfoldable pub rule_2 : Fixed → State → Option Move
+rule_2 f s = option_and_then (issued_as f s) (next_signature f s)
 
 -- rule 1 is tried first
-unfoldable pub next_move : Fixed → ℕ → List Instance → List CircuitState → Option Move
-next_move f present is circuits = option_or (rule_1 present is) (rule_2 f present is circuits)
+unfoldable pub next_move : Fixed → State → Option Move
+next_move f s = option_or (rule_1 s) (rule_2 f s)
 
 -- ---- what a step does
 
@@ -97,21 +94,24 @@ unfoldable pub instances_after : List Instance → Move → List Instance
 instances_after is (GiveUp id by) = after_void id by is
 instances_after is (Issue σ set round1) = with_fresh is σ set round1
 
+unfoldable pub moved : State → Move → State
+moved s m = record s { instances = instances_after s.instances m }
+
 -- ---- all steps
 
--- step after step, as long as there is one, and at most n of them: what is done, and the instances then
-unfoldable pub moves_in : ℕ → Fixed → ℕ → List Instance → List CircuitState → List Move
-moves_in zero f present is circuits = []
-moves_in (suc n) f present is circuits = elim (next_move f present is circuits) [
+-- step after step, as long as there is one, and at most n of them: what is done, and the state then
+unfoldable pub moves_in : ℕ → Fixed → State → List Move
+moves_in zero f s = []
+moves_in (suc n) f s = elim (next_move f s) [
   | None ↦ []
-  | Some m ↦ m ∷ moves_in n f present (instances_after is m) circuits
+  | Some m ↦ m ∷ moves_in n f (moved s m)
 ]
 
-unfoldable pub issued_in : ℕ → Fixed → ℕ → List Instance → List CircuitState → List Instance
-issued_in zero f present is circuits = is
-issued_in (suc n) f present is circuits = elim (next_move f present is circuits) [
-  | None ↦ is
-  | Some m ↦ issued_in n f present (instances_after is m) circuits
+unfoldable pub issued_in : ℕ → Fixed → State → State
+issued_in zero f s = s
+issued_in (suc n) f s = elim (next_move f s) [
+  | None ↦ s
+  | Some m ↦ issued_in n f (moved s m)
 ]
 
 -- as many steps as there can be, and more: one for each signature that is needed, and one that gives a
@@ -121,7 +121,7 @@ most_moves f = length (keys f) + length f.plans + 2
 
 -- both rules, until neither applies
 unfoldable pub moves : Fixed → State → List Move
-moves f s = moves_in (most_moves f) f s.present s.instances s.circuits
+moves f s = moves_in (most_moves f) f s
 
 unfoldable pub issue : Fixed → State → State
-issue f s = record s { instances = issued_in (most_moves f) f s.present s.instances s.circuits }
+issue f s = issued_in (most_moves f) f s

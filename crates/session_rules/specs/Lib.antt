@@ -1,10 +1,12 @@
 pub mod States
 pub mod Issues
+pub mod Deeds
 pub mod Steps
 pub mod Histories
 pub mod Tasks
 pub mod Courses
 pub mod Fixing
 pub mod Facts
+pub mod Allowed
 pub mod Grounds
 pub mod Completions

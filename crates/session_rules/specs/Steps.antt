@@ -1,13 +1,11 @@
--- The nine calls: of each the reply, and the state then. Replies are tried in the order in which they
--- stand.
-use Rattle.std.specs.Prelude.{ℕ, Bool, true, not, nat_eq, nat_lt, ◌&&◌, ◌||◌, cond, if◌then◌else◌, List, [], length, map, filter, slice_set, Option, Some, None}
+-- The nine calls: of each the reply, and what is done. Replies are tried in the order in which they
+-- stand; nothing is done where a call is refused.
+use Rattle.std.specs.Prelude.{ℕ, Bool, true, false, not, nat_eq, nat_lt, ◌&&◌, ◌||◌, cond, if◌then◌else◌, List, [], length, map, filter, slice_set, Option, Some, None}
 use Rattle.std.specs.List.{slice_index_or, range_with_len, find, list_any, list_all, flat_map}
 use Rattle.share_spec.specs.Sets.{has}
 use Rattle.proto_names.specs.Names.{same, rows_of}
-use Rattle.proto_names.specs.Groups.{with_party, without_party}
-use Rattle.proto_names.specs.Instances.{instance, lacks, missing, after_share, owed_shares}
-use Rattle.proto_names.specs.declared.signature.Signature.{Signature}
-use Rattle.proto_names.specs.declared.signature.Signature.TheVariants.{Pk, Rlk1, Rlk2, Rot, Dec}
+use Rattle.proto_names.specs.Instances.{instance, lacks, missing, owed_shares}
+use Rattle.proto_names.specs.declared.signature.Signature.TheVariants.{Pk, Rlk2, Rot}
 use Rattle.proto_names.specs.declared.instance.Instance.{Instance}
 use Rattle.proto_names.specs.declared.instance.Stage.{Stage}
 use Rattle.proto_names.specs.declared.instance.Stage.TheVariants.{Opened, Complete, Void}
@@ -15,38 +13,29 @@ use Rattle.session_rules.specs.declared.call.Call.{Call}
 use Rattle.session_rules.specs.declared.call.Call.TheVariants as call
 use Rattle.session_rules.specs.declared.reply.Reply.{Reply}
 use Rattle.session_rules.specs.declared.reply.Reply.TheVariants as reply
-use Rattle.session_rules.specs.declared.state.CircuitState.{CircuitState}
-use Rattle.session_rules.specs.declared.state.CircuitState.TheVariants.{Idle, Taken, Evaluated, Answered}
+use Rattle.session_rules.specs.declared.deed.Deed.{Deed}
+use Rattle.session_rules.specs.declared.deed.Deed.TheVariants.{Nothing, Joins, Loses, Counts, Gives, Turns}
+use Rattle.session_rules.specs.declared.deed.Verdict.{Verdict}
+use Rattle.session_rules.specs.declared.state.CircuitState.TheVariants.{Idle, Taken, Evaluated}
 use Rattle.session_rules.specs.declared.fixed.Plan.{Plan}
 use Rattle.session_rules.specs.declared.fixed.Fixed.{Fixed}
 use Rattle.session_rules.specs.States.{State, is_admitted, is_idle, is_taken_by, plan, circuit, is_given, has_done}
-use Rattle.session_rules.specs.Issues.{issue}
+use Rattle.session_rules.specs.Deeds.{done}
+
+-- a reply with which nothing is done, and one with which something is
+abbrev pub says : Reply → Verdict
+says r = record { reply = r; deed = Nothing }
+
+abbrev pub does : Reply → Deed → Verdict
+does r d = record { reply = r; deed = d }
 
 -- ---- join and lose
 
-unfoldable pub join : Fixed → State → ℕ → Reply × State
-join f s p =
-    if has s.present p then (reply.Already, s)
-    else (reply.Joined, issue f (record s { present = with_party s.present p }))
+unfoldable pub join : State → ℕ → Verdict
+join s p = if has s.present p then says reply.Already else does reply.Joined (Joins p)
 
--- it is the second round of an instance, and lacks the party's share
-abbrev pub lacks_for : ℕ → ℕ → Instance → Bool
-lacks_for p id i = same i.signature Rlk2 && nat_eq i.round1 id && lacks p i
-
--- an instance that is void once the party is lost: it lacks the party's share, or its second round does
-unfoldable pub falls : ℕ → List Instance → Instance → Bool
-falls p is i = lacks p i || list_any (lacks_for p i.id) is
-
-abbrev pub fallen : ℕ → List Instance → Instance → Instance
-fallen p is i = if falls p is i then record i { stage = Void p } else i
-
-unfoldable pub after_loss : ℕ → List Instance → List Instance
-after_loss p is = map (fallen p is) is
-
-unfoldable pub lose : Fixed → State → ℕ → Reply × State
-lose f s p =
-    if not (has s.present p) then (reply.Already, s)
-    else (reply.Left, issue f (record s { present = without_party s.present p; instances = after_loss p s.instances }))
+unfoldable pub lose : State → ℕ → Verdict
+lose s p = if not (has s.present p) then says reply.Already else does reply.Left (Loses p)
 
 -- ---- pending and brief
 
@@ -84,38 +73,26 @@ brief s id = elim (instance s.instances id) [
 
 -- ---- deliver
 
--- the circuit of a decryption that is complete is answered
-unfoldable pub answered_by : Signature → List CircuitState → List CircuitState
-answered_by Pk circuits = circuits
-answered_by Rlk1 circuits = circuits
-answered_by Rlk2 circuits = circuits
-answered_by (Rot g) circuits = circuits
-answered_by (Dec c) circuits = slice_set circuits c Answered
-
--- a share that is counted
-unfoldable pub counted : Fixed → State → Instance → ℕ → Reply × State
-counted f s i p =
-    let next = record s { instances = after_share i.id p s.instances } in
-    if nat_eq (missing p i) 0
-    then (reply.Completed, issue f (record next { circuits = answered_by i.signature s.circuits }))
-    else (reply.Counted (missing p i), next)
+-- a share that is counted: it is the last one, or so many are missing
+unfoldable pub counted : ℕ → Instance → Reply
+counted p i = if nat_eq (missing p i) 0 then reply.Completed else reply.Counted (missing p i)
 
 -- a share for an instance that isn't void
-unfoldable pub accepted : Fixed → State → Instance → ℕ → ℕ → Reply × State
-accepted f s i p rows =
-    if has i.sent.bits p then (reply.Repeat, s)
-    else if not (nat_eq (rows_of i.signature f.rows) rows) then (reply.Shape (rows_of i.signature f.rows) rows, s)
-    else counted f s i p
+unfoldable pub accepted : Fixed → Instance → ℕ → ℕ → Verdict
+accepted f i p rows =
+    if has i.sent.bits p then says reply.Repeat
+    else if not (nat_eq (rows_of i.signature f.rows) rows) then says (reply.Shape (rows_of i.signature f.rows) rows)
+    else does (counted p i) (Counts i p)
 
-unfoldable pub by_stage : Fixed → State → Instance → ℕ → ℕ → Stage → Reply × State
-by_stage f s i p rows (Void by) = (reply.Late by, s)
-by_stage f s i p rows Opened = accepted f s i p rows
-by_stage f s i p rows Complete = accepted f s i p rows
+unfoldable pub by_stage : Fixed → Instance → ℕ → ℕ → Stage → Verdict
+by_stage f i p rows (Void by) = says (reply.Late by)
+by_stage f i p rows Opened = accepted f i p rows
+by_stage f i p rows Complete = accepted f i p rows
 
-unfoldable pub deliver : Fixed → State → ℕ → ℕ → ℕ → Reply × State
+unfoldable pub deliver : Fixed → State → ℕ → ℕ → ℕ → Verdict
 deliver f s id p rows = elim (instance s.instances id) [
-  | None ↦ (reply.Unknown (length s.instances), s)
-  | Some i ↦ if has i.set.bits p then by_stage f s i p rows i.stage else (reply.Stranger, s)
+  | None ↦ says (reply.Unknown (length s.instances))
+  | Some i ↦ if has i.set.bits p then by_stage f i p rows i.stage else says reply.Stranger
 ]
 
 -- ---- input
@@ -124,16 +101,13 @@ deliver f s id p rows = elim (instance s.instances id) [
 unfoldable pub is_input : Fixed → ℕ → ℕ → Bool
 is_input f c k = is_admitted (plan f c) && nat_lt k (length (plan f c).owners)
 
-abbrev pub with_input : List (List Bool) → ℕ → ℕ → List (List Bool)
-with_input given c k = slice_set given c (slice_set (slice_index_or given c []) k true)
-
-unfoldable pub input : Fixed → State → ℕ → ℕ → Reply × State
+unfoldable pub input : Fixed → State → ℕ → ℕ → Verdict
 input f s c k =
-    if not (is_input f c k) then (reply.NoInput, s)
-    else if not (has_done Pk s.instances) then (reply.NoKey, s)
-    else if not (has s.present (slice_index_or (plan f c).owners k 0)) then (reply.Absent, s)
-    else if is_given s c k then (reply.Repeat, s)
-    else (reply.Given, record s { given = with_input s.given c k })
+    if not (is_input f c k) then says reply.NoInput
+    else if not (has_done Pk s.instances) then says reply.NoKey
+    else if not (has s.present (slice_index_or (plan f c).owners k 0)) then says reply.Absent
+    else if is_given s c k then says reply.Repeat
+    else does reply.Given (Gives c k)
 
 -- ---- take, finish, give back
 
@@ -155,34 +129,34 @@ ready f s c =
 unfoldable pub next_ready : Fixed → State → Option ℕ
 next_ready f s = find (ready f s) (range_with_len 0 (length f.plans))
 
-abbrev pub with_circuit : State → ℕ → CircuitState → State
-with_circuit s c now = record s { circuits = slice_set s.circuits c now }
-
-unfoldable pub take : Fixed → State → ℕ → Reply × State
+unfoldable pub take : Fixed → State → ℕ → Verdict
 take f s caller = elim (next_ready f s) [
-  | None ↦ (reply.Nothing, s)
-  | Some c ↦ (reply.Job c, with_circuit s c (Taken caller))
+  | None ↦ says reply.Nothing
+  | Some c ↦ does (reply.Job c) (Turns c (Taken caller))
 ]
 
-unfoldable pub finish : Fixed → State → ℕ → ℕ → Reply × State
-finish f s caller c =
-    if is_taken_by caller (circuit s.circuits c) then (reply.Finished, issue f (with_circuit s c Evaluated))
-    else (reply.NotTaken, s)
+unfoldable pub finish : State → ℕ → ℕ → Verdict
+finish s caller c =
+    if is_taken_by caller (circuit s.circuits c) then does reply.Finished (Turns c Evaluated) else says reply.NotTaken
 
-unfoldable pub give_back : State → ℕ → ℕ → Reply × State
+unfoldable pub give_back : State → ℕ → ℕ → Verdict
 give_back s caller c =
-    if is_taken_by caller (circuit s.circuits c) then (reply.Returned, with_circuit s c Idle)
-    else (reply.NotTaken, s)
+    if is_taken_by caller (circuit s.circuits c) then does reply.Returned (Turns c Idle) else says reply.NotTaken
 
 -- ---- any call of any caller
 
+-- what the rules say to it
+unfoldable pub judge : Fixed → State → ℕ → Call → Verdict
+judge f s caller (call.Join p) = join s p
+judge f s caller (call.Lose p) = lose s p
+judge f s caller (call.Pending p) = says (pending f s p)
+judge f s caller (call.Brief id) = says (brief s id)
+judge f s caller (call.Deliver id p rows) = deliver f s id p rows
+judge f s caller (call.Input c k) = input f s c k
+judge f s caller call.Take = take f s caller
+judge f s caller (call.Finish c) = finish s caller c
+judge f s caller (call.GiveBack c) = give_back s caller c
+
+-- the reply, and the state then
 unfoldable pub step : Fixed → State → ℕ → Call → Reply × State
-step f s caller (call.Join p) = join f s p
-step f s caller (call.Lose p) = lose f s p
-step f s caller (call.Pending p) = (pending f s p, s)
-step f s caller (call.Brief id) = (brief s id, s)
-step f s caller (call.Deliver id p rows) = deliver f s id p rows
-step f s caller (call.Input c k) = input f s c k
-step f s caller call.Take = take f s caller
-step f s caller (call.Finish c) = finish f s caller c
-step f s caller (call.GiveBack c) = give_back s caller c
+step f s caller c = ((judge f s caller c).reply, done f (judge f s caller c).deed s)

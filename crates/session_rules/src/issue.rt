@@ -1,9 +1,9 @@
 //! The rules of issue, over what they look at: the fixed data, the parties that are present, the
 //! instances, and the circuits.
-ghost use Rattle.std.specs.Prelude.{◌≡◌, ◌<◌, ◌≤◌, length};
+ghost use Rattle.std.specs.Prelude.{◌≡◌, ◌<◌, ◌≤◌, [], length};
 ghost use Rattle.std.specs.List.{find, range_with_len};
 ghost use Rattle.proto_names.specs.Instances.{lives, is_done};
-ghost use Rattle.session_rules.specs.States.{has_live, has_done};
+ghost use Rattle.session_rules.specs.States.{seen, circuit, is_evaluated, has_live, has_done};
 ghost use Rattle.session_rules.specs.Issues.{keys, enough, condition, may_issue, may_decrypt, next_decryption, next_signature, outdated, rule_1, least_present, issued_as, rule_2, next_move};
 
 use crate::{CircuitState, Fixed, Move};
@@ -46,20 +46,20 @@ pub fn has_done(signature: Signature, instances: &[Instance]) -> bool
 /// Whether as many parties are present as act together.
 #[tactic(auto, unfolding(crate::specs::Issues::enough))]
 fn enough(fixed: &Fixed, present: &PartySet) -> bool
-    ensures { result ≡ enough fixed.now present.now.bits }
+    ensures { result ≡ enough fixed.now (seen present.now.bits [] [] []) }
 {
     fixed.threshold <= present.count()
 }
 
 /// Whether the condition of a signature stands.
-#[tactic(auto, unfolding(crate::specs::Issues::condition))]
+#[tactic(auto, using(crate::proofs::Seen::looks), unfolding(crate::specs::Issues::condition))]
 fn condition(
     fixed: &Fixed,
     present: &PartySet,
     instances: &[Instance],
     signature: Signature,
 ) -> bool
-    ensures { result ≡ condition fixed.now present.now.bits instances.now signature }
+    ensures { result ≡ condition fixed.now (seen present.now.bits instances.now [] []) signature }
 {
     if signature.is(Signature::Rlk2) {
         has_done(Signature::Rlk1, instances)
@@ -76,13 +76,21 @@ fn may_issue(
     instances: &[Instance],
     signature: Signature,
 ) -> bool
-    ensures { result ≡ may_issue fixed.now present.now.bits instances.now signature }
+    ensures { result ≡ may_issue fixed.now (seen present.now.bits instances.now [] []) signature }
 {
     condition(fixed, present, instances, signature) && !has_live(signature, instances)
 }
 
+/// Whether a circuit is evaluated.
+fn is_evaluated(circuits: &[CircuitState], c: u32) -> bool
+    requires { c < length circuits.now }
+    ensures { result ≡ is_evaluated (circuit circuits.now c) }
+{
+    matches!(circuits[c as usize], CircuitState::Evaluated)
+}
+
 /// Whether the decryption of a circuit is needed and may be issued.
-#[tactic(auto, unfolding(crate::specs::Issues::may_decrypt))]
+#[tactic(auto, using(crate::proofs::Seen::decrypt_seen))]
 fn may_decrypt(
     fixed: &Fixed,
     present: &PartySet,
@@ -91,10 +99,9 @@ fn may_decrypt(
     c: u32,
 ) -> bool
     requires { c < length circuits.now }
-    ensures { result ≡ may_decrypt fixed.now present.now.bits instances.now circuits.now c }
+    ensures { result ≡ may_decrypt fixed.now (seen present.now.bits instances.now [] circuits.now) c }
 {
-    matches!(circuits[c as usize], CircuitState::Evaluated)
-        && may_issue(fixed, present, instances, Signature::Dec(c))
+    is_evaluated(circuits, c) && may_issue(fixed, present, instances, Signature::Dec(c))
 }
 
 /// The first circuit whose decryption may be issued.
@@ -105,7 +112,7 @@ fn first_decryption(
     circuits: &[CircuitState],
 ) -> Option<u32>
     requires few { length circuits.now ≤ 64 }
-    ensures { result ≡ find (may_decrypt fixed.now present.now.bits instances.now circuits.now) (range_with_len 0 (length circuits.now)) }
+    ensures { result ≡ find (may_decrypt fixed.now (seen present.now.bits instances.now [] circuits.now)) (range_with_len 0 (length circuits.now)) }
 {
     (0..circuits.len() as u32).find(|c| may_decrypt(fixed, present, instances, circuits, *c))
 }
@@ -119,7 +126,7 @@ fn next_decryption(
     circuits: &[CircuitState],
 ) -> Option<Signature>
     requires few { length circuits.now ≤ 64 }
-    ensures { result ≡ next_decryption fixed.now present.now.bits instances.now circuits.now }
+    ensures { result ≡ next_decryption fixed.now (seen present.now.bits instances.now [] circuits.now) }
 {
     first_decryption(fixed, present, instances, circuits).map(|c| Signature::Dec(c))
 }
@@ -131,13 +138,13 @@ fn first_key(
     present: &PartySet,
     instances: &[Instance],
 ) -> Option<Signature>
-    ensures { result ≡ find (may_issue fixed.now present.now.bits instances.now) needed.now }
+    ensures { result ≡ find (may_issue fixed.now (seen present.now.bits instances.now [] [])) needed.now }
 {
     needed.iter().copied().find(|signature| may_issue(fixed, present, instances, *signature))
 }
 
 /// The first signature that is needed and may be issued.
-#[tactic(auto, unfolding(crate::specs::Issues::next_signature))]
+#[tactic(auto, using(crate::proofs::Seen::looks), unfolding(crate::specs::Issues::next_signature))]
 fn next_signature(
     fixed: &Fixed,
     needed: &[Signature],
@@ -147,7 +154,7 @@ fn next_signature(
 ) -> Option<Signature>
     requires keys { needed.now ≡ keys fixed.now }
     requires few { length circuits.now ≤ 64 }
-    ensures { result ≡ next_signature fixed.now present.now.bits instances.now circuits.now }
+    ensures { result ≡ next_signature fixed.now (seen present.now.bits instances.now [] circuits.now) }
 {
     match first_key(fixed, needed, present, instances) {
         Some(signature) => Some(signature),
@@ -158,7 +165,7 @@ fn next_signature(
 /// The move that gives a complete first round up, if one of its parties is absent.
 #[tactic(auto, unfolding(crate::specs::Issues::outdated))]
 fn outdated(present: &PartySet, first_round: &Instance) -> Option<Move>
-    ensures { result ≡ outdated present.now.bits first_round.now }
+    ensures { result ≡ outdated (seen present.now.bits [] [] []) first_round.now }
 {
     let id = first_round.id;
     match first_round.set.first_outside(present) {
@@ -178,9 +185,9 @@ fn first_done(signature: Signature, instances: &[Instance]) -> Option<Instance>
 }
 
 /// Rule 1: a complete first round without a second one is given up, where one of its parties is absent.
-#[tactic(auto, unfolding(crate::specs::Issues::rule_1))]
+#[tactic(auto, using(crate::proofs::Seen::looks), unfolding(crate::specs::Issues::rule_1))]
 fn rule_1(present: &PartySet, instances: &[Instance]) -> Option<Move>
-    ensures { result ≡ rule_1 present.now.bits instances.now }
+    ensures { result ≡ rule_1 (seen present.now.bits instances.now [] []) }
 {
     if has_live(Signature::Rlk2, instances) {
         return None;
@@ -194,20 +201,20 @@ fn rule_1(present: &PartySet, instances: &[Instance]) -> Option<Move>
 /// The T least parties that are present, or all where there are fewer.
 #[tactic(auto, unfolding(crate::specs::Issues::least_present))]
 fn least_present(fixed: &Fixed, present: &PartySet) -> PartySet
-    ensures { result ≡ least_present fixed.now present.now.bits }
+    ensures { result ≡ least_present fixed.now (seen present.now.bits [] [] []) }
 {
     present.least_or_all(fixed.threshold)
 }
 
 /// The move that issues an instance of a signature.
-#[tactic(auto, unfolding(crate::specs::Issues::issued_as))]
+#[tactic(auto, using(crate::proofs::Seen::looks), unfolding(crate::specs::Issues::issued_as))]
 fn issued_as(
     fixed: &Fixed,
     present: &PartySet,
     instances: &[Instance],
     signature: Signature,
 ) -> Option<Move>
-    ensures { result ≡ issued_as fixed.now present.now.bits instances.now signature }
+    ensures { result ≡ issued_as fixed.now (seen present.now.bits instances.now [] []) signature }
 {
     if signature.is(Signature::Rlk2) {
         return first_done(Signature::Rlk1, instances).map(|first_round| Move::Issue {
@@ -224,7 +231,7 @@ fn issued_as(
 }
 
 /// Rule 2: the next signature is issued.
-#[tactic(auto, unfolding(crate::specs::Issues::rule_2))]
+#[tactic(auto, using(crate::proofs::Seen::looks), unfolding(crate::specs::Issues::rule_2))]
 fn rule_2(
     fixed: &Fixed,
     needed: &[Signature],
@@ -234,7 +241,7 @@ fn rule_2(
 ) -> Option<Move>
     requires keys { needed.now ≡ keys fixed.now }
     requires few { length circuits.now ≤ 64 }
-    ensures { result ≡ rule_2 fixed.now present.now.bits instances.now circuits.now }
+    ensures { result ≡ rule_2 fixed.now (seen present.now.bits instances.now [] circuits.now) }
 {
     match next_signature(fixed, needed, present, instances, circuits) {
         Some(signature) => issued_as(fixed, present, instances, signature),
@@ -243,7 +250,7 @@ fn rule_2(
 }
 
 /// The next move, if a rule applies. Rule 1 is tried first.
-#[tactic(auto, unfolding(crate::specs::Issues::next_move))]
+#[tactic(auto, using(crate::proofs::Seen::looks), unfolding(crate::specs::Issues::next_move))]
 pub(crate) fn next_move(
     fixed: &Fixed,
     needed: &[Signature],
@@ -253,7 +260,7 @@ pub(crate) fn next_move(
 ) -> Option<Move>
     requires keys { needed.now ≡ keys fixed.now }
     requires few { length circuits.now ≤ 64 }
-    ensures { result ≡ next_move fixed.now present.now.bits instances.now circuits.now }
+    ensures { result ≡ next_move fixed.now (seen present.now.bits instances.now [] circuits.now) }
 {
     match rule_1(present, instances) {
         Some(given_up) => Some(given_up),

@@ -1,11 +1,15 @@
 //! What follows from the rules, whatever is called: each function states a law, and does nothing.
-ghost use Rattle.session_rules.specs.Facts.{RefusalsChangeNothing, CallsKeep, HistoriesKeep, PartiesArePresent, CallsLeave, HistoriesLeave, KeysStay, FirstRoundsStay, TakenStays, IssueEnds, IssueIsItsMoves, MovesAreFew, CallsLeaveRest, HistoriesLeaveRest, SharesAreWanted, ShapesAreRefused, SharesAreCountedOnce, CompleteOnesLackNone, FewAreIssued, HistoriesIssueFew, LegalOnesGrow, NextState, BeginningsAreLegal, StatesLeadOn, LaterOnesFollow, TakenStaysOn};
-ghost use Rattle.session_rules.specs.Completions.{CompleteOnesAreFull, CompletedOnesStayFull, CompletionsAnswer, AnsweredOnesAreDecrypted, RefusedOnesStay, OthersAreNotRefused};
+ghost use Rattle.session_rules.specs.Facts.{RefusalsDoNothing, NothingIsDone, CallsKeep, HistoriesKeep, PartiesArePresent, CallsLeave, HistoriesLeave, KeysStay, FirstRoundsStay, TakenStays, IssueEnds, IssueIsItsMoves, MovesAreFew, CallsLeaveRest, HistoriesLeaveRest, SharesAreWanted, ShapesAreRefused, SharesAreCountedOnce, CompleteOnesLackNone, CompleteOnesHaveAll, FewAreIssued, HistoriesIssueFew, LegalOnesGrow, NextState, BeginningsAreLegal, StatesLeadOn, LaterOnesFollow, TakenStaysOn, CompletedOnesHaveAll, RefusedOnesBeganSo};
+ghost use Rattle.session_rules.specs.Allowed.{DeedsAreAllowed};
+ghost use Rattle.session_rules.specs.Completions.{AnsweredOnesAreDecrypted};
 ghost use Rattle.session_rules.specs.Grounds.{CallsGround, HistoriesGround, CircuitsAreWhole};
 
-/// A reply that refuses goes with the state as it was.
-pub fn refusals()
-    ensures { RefusalsChangeNothing }
+/// What is done is what the call asks for, goes with its reply, and may be done. A reply that refuses
+/// goes with nothing, which leaves the state as it was.
+pub fn verdicts()
+    ensures allowed { DeedsAreAllowed }
+    ensures refusals { RefusalsDoNothing }
+    ensures nothing { NothingIsDone }
 {}
 
 /// What holds in every state that calls lead to: of each signature at most one instance is opened or
@@ -17,18 +21,20 @@ pub fn invariants()
     ensures present { PartiesArePresent }
 {}
 
-/// What no call changes: an instance's number, signature, parties and attempt, and what is complete,
-/// void, given, refused, evaluated or answered. A circuit that is taken is its caller's.
+/// What no call changes: an instance's number, signature, parties and attempt. What is void, given,
+/// refused or answered stays so, an evaluated circuit stays so or is answered, and what is complete stays so,
+/// but for a first round without a complete second one. A circuit that is taken is its caller's.
 pub fn constancy()
     ensures calls { CallsLeave }
     ensures histories { HistoriesLeave }
     ensures keys { KeysStay }
     ensures first_rounds { FirstRoundsStay }
     ensures taken { TakenStays }
+    ensures refused { RefusedOnesBeganSo }
 {}
 
-/// Issuing ends after few moves, and does them one after the other. So in every state that calls lead
-/// to nothing is left to be issued or given up.
+/// Issuing ends after few moves, and does them one after the other. So where the threshold isn't 0, in
+/// every state that calls lead to nothing is left to be issued or given up.
 pub fn issuing()
     ensures ends { IssueEnds }
     ensures moves { IssueIsItsMoves }
@@ -37,12 +43,17 @@ pub fn issuing()
     ensures histories { HistoriesLeaveRest }
 {}
 
-/// Each share of an instance that isn't void is counted once, where it has the right length.
+/// Each share of an instance that isn't void is counted once, where it has the right length; those who
+/// sent to a complete one are exactly its parties, and stay so. Each circuit that is answered has a
+/// complete decryption.
 pub fn shares()
     ensures wanted { SharesAreWanted }
     ensures shape { ShapesAreRefused }
     ensures once { SharesAreCountedOnce }
     ensures complete { CompleteOnesLackNone }
+    ensures all { CompleteOnesHaveAll }
+    ensures completed { CompletedOnesHaveAll }
+    ensures decrypted { AnsweredOnesAreDecrypted }
 {}
 
 /// A legal history goes on by any call with the reply that it has to have, each of its beginnings is
@@ -65,17 +76,4 @@ pub fn grounds()
     ensures calls { CallsGround }
     ensures histories { HistoriesGround }
     ensures whole { CircuitsAreWhole }
-{}
-
-/// A complete instance has a share of each of its parties, which are as many as act together; so has one
-/// whose last share was counted, whatever becomes of it. A complete decryption has answered its circuit at
-/// that very entry, and each circuit that is answered has one. The circuits that began refused, and no
-/// others, are refused.
-pub fn completions()
-    ensures full { CompleteOnesAreFull }
-    ensures last { CompletedOnesStayFull }
-    ensures answer { CompletionsAnswer }
-    ensures decrypted { AnsweredOnesAreDecrypted }
-    ensures refused { RefusedOnesStay }
-    ensures others { OthersAreNotRefused }
 {}

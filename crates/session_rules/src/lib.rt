@@ -2,13 +2,14 @@
 //!
 //! N parties hold a secret, and any T of them act. The helper's state (docs/SESSION.md) has the
 //! parties that are present, the instances of protocols, the inputs that are given, and how far each
-//! circuit has come; it holds no polynomial. `specs/` says for each caller and each call what the
-//! reply is and what the state is then: a history is legal where each reply is the one said there.
+//! circuit has come; it holds no polynomial. `specs/` says for each caller and each call the reply and
+//! the deed, which is all that changes: a history is legal where each reply is the one said there.
 //! Callers may rely on the laws of `laws`: of each signature at most one instance lives, what was
 //! issued keeps its signature and its parties, and issuing ends. Nothing is said here of shares or keys.
 #![tactic(auto)]
 
 mod call;
+mod deed;
 mod fixed;
 mod fixing;
 mod given;
@@ -21,8 +22,10 @@ mod planning;
 mod ready;
 mod reply;
 mod state;
+mod verdicts;
 
 pub use call::{Call, Entry};
+pub use deed::{Deed, Verdict};
 pub use fixed::{Fixed, Plan, PlanList};
 pub use fixing::plan_of;
 pub use given::Given;
@@ -35,3 +38,7 @@ pub use planning::planned_moves;
 pub use ready::{is_ready, next_ready};
 pub use reply::Reply;
 pub use state::CircuitState;
+pub use verdicts::{
+    judge_deliver, judge_finish, judge_give_back, judge_input, judge_join, judge_lose, judge_take,
+    says,
+};

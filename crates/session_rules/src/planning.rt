@@ -1,53 +1,22 @@
 //! The moves that the rules of issue make, found out on a copy of the instances.
-ghost use Rattle.std.specs.Prelude.{◌≡◌, ◌+◌, ◌^◌, ◌<◌, ◌≤◌, map, length, IfOk};
-ghost use Rattle.std.specs.List.{count_by};
-ghost use Rattle.proto_names.specs.Instances.{fresh, given_up, after_void, is_of};
-ghost use Rattle.session_rules.specs.Issues.{keys, instances_after, moves_in, most_moves};
+ghost use Rattle.std.specs.Prelude.{◌≡◌, ◌+◌, ◌^◌, ◌<◌, ◌≤◌, [], length, IfOk};
+ghost use Rattle.proto_names.specs.Instances.{given_up, after_void};
+ghost use Rattle.session_rules.specs.States.{seen};
+ghost use Rattle.session_rules.specs.Issues.{keys, instances_after, moves};
 
 use crate::issue::next_move;
 use crate::{CircuitState, Fixed, Move};
-use proto_names::{Instance, PartySet, Signature, Stage};
+use proto_names::{Instance, PartySet, Signature, fresh, given_up};
 use std::alloc::{AllocError, Global};
 
 /// An instance, given up if it has this number.
-fn given_up(id: u32, by: u32, instance: &Instance) -> Instance
+fn given_up_at(id: u32, by: u32, instance: &Instance) -> Instance
     ensures { result ≡ given_up id by instance.now }
 {
     if instance.id == id {
-        Instance {
-            stage: Stage::Void { by },
-            ..*instance
-        }
+        given_up(by, instance)
     } else {
         *instance
-    }
-}
-
-/// How many instances of a signature there are.
-fn attempts(signature: Signature, instances: &[Instance]) -> u32
-    requires { length instances.now < 2 ^ 30 }
-    ensures { result ≡ count_by (is_of signature) instances.now }
-{
-    instances
-        .iter()
-        .filter(|instance| instance.signature.is(signature))
-        .count() as u32
-}
-
-/// The next instance.
-#[tactic(auto, unfolding(proto_names::specs::Instances::fresh))]
-fn fresh(instances: &[Instance], signature: Signature, set: PartySet, round1: u32) -> Instance
-    requires { length instances.now < 2 ^ 30 }
-    ensures { result ≡ fresh instances.now signature set round1 }
-{
-    Instance {
-        id: instances.len() as u32 + 1,
-        signature,
-        set,
-        attempt: attempts(signature, instances) + 1,
-        sent: PartySet { bits: 0 },
-        stage: Stage::Opened,
-        round1,
     }
 }
 
@@ -63,7 +32,7 @@ fn after_void(
 {
     instances
         .iter()
-        .map(|instance| given_up(id, by, instance))
+        .map(|instance| given_up_at(id, by, instance))
         .collect(alloc)
 }
 
@@ -106,7 +75,7 @@ pub fn planned_moves(
     requires few { length circuits.now ≤ 64 }
     requires few_keys { length needed.now ≤ 32 }
     requires few_instances { length instances.items + length needed.now + length circuits.now + 2 ≤ 2 ^ 30 }
-    ensures { IfOk result (λ v. v.items ≡ moves_in (most_moves fixed.now) fixed.now present.now.bits instances.items circuits.now) }
+    ensures { IfOk result (λ v. v.items ≡ moves fixed.now (seen present.now.bits instances.items [] circuits.now)) }
 {
     let mut instances = instances;
     let mut made = Vec::new(alloc);

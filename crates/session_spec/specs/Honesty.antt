@@ -1,18 +1,21 @@
 -- Stores that go with a state, stores whose polynomials are those of honest parties, and what calls have to
 -- bring so that they stay so.
-use Rattle.std.specs.Prelude.{◌≡◌, ℕ, ◌<◌, true, List, length, Some}
+use Rattle.std.specs.Prelude.{◌≡◌, ℕ, ◌<◌, true, List, length, Some, ⊤}
 use Rattle.ring_spec.specs.Pairs.{Cipher}
 use Rattle.proto_names.specs.Names.{rows_of}
 use Rattle.proto_names.specs.Instances.{instance, lacks}
 use Rattle.proto_names.specs.declared.instance.Instance.{Instance}
-use Rattle.session_rules.specs.declared.state.CircuitState.TheVariants.{Answered}
+use Rattle.session_rules.specs.declared.deed.Deed.{Deed}
+use Rattle.session_rules.specs.declared.deed.Deed.TheVariants.{Nothing, Joins, Loses, Counts, Gives, Turns}
+use Rattle.session_rules.specs.declared.state.CircuitState.{CircuitState}
+use Rattle.session_rules.specs.declared.state.CircuitState.TheVariants.{Refused, Idle, Taken, Evaluated, Answered}
 use Rattle.session_rules.specs.declared.reply.Reply.TheVariants as reply
 use Rattle.session_rules.specs.States.{State, circuit, is_given}
 use Rattle.session_rules.specs.Steps.{input, finish}
 use Rattle.session_rules.specs.Facts.{IsLive, is_settled}
 use Rattle.session_spec.specs.Settings.{Setting, rules, gadget_rows, plain_at}
 use Rattle.session_spec.specs.Outputs.{key_in, input_of, output_of, polys_of, share_of, sums_of}
-use Rattle.session_spec.specs.Stores.{Store, held_polys, held_sums, held_input, held_output, held_answer}
+use Rattle.session_spec.specs.Stores.{Store, Brought, held_polys, held_sums, held_input, held_output, held_answer}
 
 -- in a state the store is that of honest parties: of each instance that isn't void the polynomials that are told
 -- and the sums; each input that is given; each output; each answer, which is the plain value
@@ -34,9 +37,25 @@ BringsShare w seeds s id p rows =
 -- an input that is then given is the encryption of its value by its owner's stream
 abbrev pub BringsInput : Setting → List (List ℕ) → State → ℕ → ℕ → Cipher → Type 0
 BringsInput w seeds s c k ct =
-    (input (rules w) s c k).0 ≡ reply.Given → ct ≡ input_of w seeds (key_in w seeds s.instances) c k
+    (input (rules w) s c k).reply ≡ reply.Given → ct ≡ input_of w seeds (key_in w seeds s.instances) c k
 
 -- an output that is taken over is the circuit's
 abbrev pub BringsOutput : Setting → List (List ℕ) → State → ℕ → ℕ → Cipher → Type 0
 BringsOutput w seeds s who c ct =
-    (finish (rules w) s who c).0 ≡ reply.Finished → ct ≡ output_of w seeds (key_in w seeds s.instances) c
+    (finish s who c).reply ≡ reply.Finished → ct ≡ output_of w seeds (key_in w seeds s.instances) c
+
+-- what is brought to a deed is honest
+abbrev pub BringsTurn : Setting → List (List ℕ) → State → ℕ → CircuitState → Cipher → Type 0
+BringsTurn w seeds s c (Refused place bound limit) ct = ⊤
+BringsTurn w seeds s c Idle ct = ⊤
+BringsTurn w seeds s c (Taken who) ct = ⊤
+BringsTurn w seeds s c Evaluated ct = ct ≡ output_of w seeds (key_in w seeds s.instances) c
+BringsTurn w seeds s c Answered ct = ⊤
+
+abbrev pub Brings : Setting → List (List ℕ) → State → Deed → Brought → Type 0
+Brings w seeds s Nothing b = ⊤
+Brings w seeds s (Joins p) b = ⊤
+Brings w seeds s (Loses p) b = ⊤
+Brings w seeds s (Counts i p) b = b.rows ≡ share_of w seeds (key_in w seeds s.instances) i p
+Brings w seeds s (Gives c k) b = b.cipher ≡ input_of w seeds (key_in w seeds s.instances) c k
+Brings w seeds s (Turns c now) b = BringsTurn w seeds s c now b.cipher

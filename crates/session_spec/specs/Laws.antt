@@ -1,24 +1,23 @@
 -- What holds of honest stores.
-use Rattle.std.specs.Prelude.{◌≡◌, ℕ, ◌<◌, ◌⊎◌, true, List, [], map, length, slice_index_or, All, Some}
-use Rattle.ring_spec.specs.Ring.{IsPoly, ring_sum}
+use Rattle.std.specs.Prelude.{◌≡◌, ℕ, ◌<◌, ◌⊎◌, true, List, [], map, length, slice_index_or, Some}
+use Rattle.ring_spec.specs.Ring.{ring_sum}
 use Rattle.ring_spec.specs.Pairs.{Cipher, Key}
 use Rattle.bfv_spec.specs.Scheme.{decryption}
 use Rattle.share_spec.specs.Sets.{count}
 use Rattle.param_set.specs.declared.params.Params.{Params}
 use Rattle.circuit_form.specs.Circuits.{owners}
-use Rattle.proto_names.specs.Instances.{instance}
 use Rattle.proto_names.specs.declared.signature.Signature.TheVariants.{Dec}
 use Rattle.proto_names.specs.declared.instance.Instance.{Instance}
-use Rattle.session_rules.specs.declared.reply.Reply.TheVariants as reply
+use Rattle.session_rules.specs.declared.call.Call.{Call}
 use Rattle.session_rules.specs.States.{State, is_admitted, plan, circuit, opening}
-use Rattle.session_rules.specs.Steps.{join, deliver, input, take, finish, ready}
+use Rattle.session_rules.specs.Steps.{deliver, input, finish, ready, judge, step}
 use Rattle.session_rules.specs.Facts.{Kept, IsLater, is_begun}
 use Rattle.session_rules.specs.Grounds.{Grounded}
 use Rattle.session_spec.specs.Settings.{Setting, Offer, rules, input_count, plain_at, IsSetting, HasValues}
 use Rattle.session_spec.specs.Shares.{sum_rows, key_of}
 use Rattle.session_spec.specs.Outputs.{key_instance, key_in, inputs_of, output_of, polys_of}
-use Rattle.session_spec.specs.Stores.{Store, cipher_or, key_by, empty, grown, after_share, with_input, with_output}
-use Rattle.session_spec.specs.Honesty.{IsHonest, BringsShare, BringsInput, BringsOutput}
+use Rattle.session_spec.specs.Stores.{Store, cipher_or, key_by, empty, Brought, share_brought, cipher_brought, store_done}
+use Rattle.session_spec.specs.Honesty.{IsHonest, BringsShare, BringsInput, BringsOutput, Brings}
 
 -- ---- answers
 
@@ -64,33 +63,28 @@ pub record Stands (p : Params) (w : Setting) (seeds : List (List ℕ)) (s : Stat
 abbrev pub OpeningIsHonest : Type 0
 OpeningIsHonest = (w : Setting) (seeds : List (List ℕ)) → IsHonest w seeds (opening (rules w)) (empty w)
 
-abbrev pub JoinsKeepHonest : Type 0
-JoinsKeepHonest =
-    (p : Params) (w : Setting) (seeds : List (List ℕ)) (s : State) (h : Store) (party : ℕ) → Stands p w seeds s h
-    → IsHonest w seeds (join (rules w) s party).1 (grown w (join (rules w) s party).1.instances h)
+-- whatever is called, where what is brought to the deed is honest
+abbrev pub CallsKeepHonest : Type 0
+CallsKeepHonest =
+    (p : Params) (w : Setting) (seeds : List (List ℕ)) (s : State) (h : Store) (caller : ℕ) (c : Call) (b : Brought) → Stands p w seeds s h
+    → Brings w seeds s (judge (rules w) s caller c).deed b
+    → IsHonest w seeds (step (rules w) s caller c).1 (store_done w (judge (rules w) s caller c).deed b (step (rules w) s caller c).1.instances h)
 
-abbrev pub SharesKeepHonest : Type 0
-SharesKeepHonest =
-    (p : Params) (w : Setting) (seeds : List (List ℕ)) (s : State) (h : Store) (i : Instance) (id party : ℕ) (rows : List (List ℕ)) → Stands p w seeds s h
-    → instance s.instances id ≡ Some i → All (IsPoly p.q p.n) rows → BringsShare w seeds s id party rows
-    → IsHonest w seeds (deliver (rules w) s id party (length rows)).1
-    (after_share w i rows (deliver (rules w) s id party (length rows)).1.instances (deliver (rules w) s id party (length rows)).0 h)
+-- a share, an input and an output as calls bring them are so
+abbrev pub SharesAreBrought : Type 0
+SharesAreBrought =
+    (w : Setting) (seeds : List (List ℕ)) (s : State) (id party : ℕ) (rows : List (List ℕ)) → Kept (rules w) s → BringsShare w seeds s id party rows
+    → Brings w seeds s (deliver (rules w) s id party (length rows)).deed (share_brought rows)
 
-abbrev pub InputsKeepHonest : Type 0
-InputsKeepHonest =
-    (p : Params) (w : Setting) (seeds : List (List ℕ)) (s : State) (h : Store) (c k : ℕ) (ct : Cipher) → Stands p w seeds s h
-    → BringsInput w seeds s c k ct → (input (rules w) s c k).0 ≡ reply.Given → IsHonest w seeds (input (rules w) s c k).1 (with_input c k ct h)
+abbrev pub InputsAreBrought : Type 0
+InputsAreBrought =
+    (w : Setting) (seeds : List (List ℕ)) (s : State) (c k : ℕ) (ct : Cipher) → BringsInput w seeds s c k ct
+    → Brings w seeds s (input (rules w) s c k).deed (cipher_brought ct)
 
-abbrev pub TakesKeepHonest : Type 0
-TakesKeepHonest =
-    (p : Params) (w : Setting) (seeds : List (List ℕ)) (s : State) (h : Store) (who : ℕ) → Stands p w seeds s h
-    → IsHonest w seeds (take (rules w) s who).1 h
-
-abbrev pub OutputsKeepHonest : Type 0
-OutputsKeepHonest =
-    (p : Params) (w : Setting) (seeds : List (List ℕ)) (s : State) (h : Store) (who c : ℕ) (ct : Cipher) → Stands p w seeds s h
-    → BringsOutput w seeds s who c ct → (finish (rules w) s who c).0 ≡ reply.Finished
-    → IsHonest w seeds (finish (rules w) s who c).1 (grown w (finish (rules w) s who c).1.instances (with_output c ct h))
+abbrev pub OutputsAreBrought : Type 0
+OutputsAreBrought =
+    (w : Setting) (seeds : List (List ℕ)) (s : State) (who c : ℕ) (ct : Cipher) → BringsOutput w seeds s who c ct
+    → Brings w seeds s (finish s who c).deed (cipher_brought ct)
 
 -- ---- what is handed out
 

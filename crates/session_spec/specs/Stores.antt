@@ -1,5 +1,5 @@
 -- The polynomials that a session keeps, and what its calls make of them, whatever the shares were.
-use Rattle.std.specs.Prelude.{ℕ, ◌-◌, List, [], ◌∷◌, ◌++◌, map, length, drop, replicate, slice_index_or, slice_set, Option, Some, None}
+use Rattle.std.specs.Prelude.{ℕ, ◌-◌, cond, if◌then◌else◌, List, [], ◌∷◌, ◌++◌, map, length, drop, replicate, slice_index_or, slice_set, Option, Some, None}
 use Rattle.std.specs.Option.{option_map}
 use Rattle.ring_spec.specs.Ring.{ring_sum}
 use Rattle.ring_spec.specs.Pairs.{Cipher, Key}
@@ -11,10 +11,12 @@ use Rattle.proto_names.specs.declared.signature.Signature.{Signature}
 use Rattle.proto_names.specs.declared.signature.Signature.TheVariants.{Pk, Rlk1, Rlk2, Rot, Dec}
 use Rattle.proto_names.specs.declared.instance.Instance.{Instance}
 use Rattle.instance_table.specs.Tables.{after_rows}
-use Rattle.session_rules.specs.declared.reply.Reply.{Reply}
-use Rattle.session_rules.specs.declared.reply.Reply.TheVariants as reply
-use Rattle.session_rules.specs.States.{State}
-use Rattle.session_spec.specs.Settings.{Setting, Offer, gadget_rows}
+use Rattle.session_rules.specs.declared.deed.Deed.{Deed}
+use Rattle.session_rules.specs.declared.deed.Deed.TheVariants.{Nothing, Joins, Loses, Counts, Gives, Turns}
+use Rattle.session_rules.specs.declared.state.CircuitState.{CircuitState}
+use Rattle.session_rules.specs.declared.state.CircuitState.TheVariants.{Refused, Idle, Taken, Evaluated, Answered}
+use Rattle.session_rules.specs.Deeds.{is_last, leads_on}
+use Rattle.session_spec.specs.Settings.{Setting, Offer, nodes_of, gadget_rows}
 use Rattle.session_spec.specs.Outputs.{key_instance}
 use Rattle.circuit_form.specs.Circuits.{owners}
 
@@ -112,12 +114,6 @@ with_answer w id Rlk2 h = h
 with_answer w id (Rot g) h = h
 with_answer w id (Dec c) h = record h { answers = slice_set h.answers c (Some (opened w h id c)) }
 
--- the store after a share for instance i with this reply, where the instances are then these
-unfoldable pub after_share : Setting → Instance → List (List ℕ) → List Instance → Reply → Store → Store
-after_share w i rows is (reply.Counted missing) h = with_rows w i.id rows h
-after_share w i rows is reply.Completed h = grown w is (with_answer w i.id i.signature (with_rows w i.id rows h))
-after_share w i rows is other h = h
-
 -- ---- inputs and outputs
 
 unfoldable pub with_input : ℕ → ℕ → Cipher → Store → Store
@@ -126,19 +122,43 @@ with_input c k ct h = record h { inputs = slice_set h.inputs c (slice_set (slice
 unfoldable pub with_output : ℕ → Cipher → Store → Store
 with_output c ct h = record h { outputs = slice_set h.outputs c (Some ct) }
 
--- ---- what becomes of the store with the reply and the state of a call
+-- ---- any deed
 
--- a share for an instance, if it is issued
-unfoldable pub shared_by : Setting → Option Instance → List (List ℕ) → Reply × State → Store → Store
-shared_by w None rows said h = h
-shared_by w (Some i) rows said h = after_share w i rows said.1.instances said.0 h
+-- what a call brings besides its numbers: the rows of a share, and a ciphertext
+pub record Brought : Type 0 where
+  pub rows : List (List ℕ)
+  pub cipher : Cipher
 
--- an input
-unfoldable pub given_by : ℕ → ℕ → Cipher → Reply → Store → Store
-given_by c k ct reply.Given h = with_input c k ct h
-given_by c k ct other h = h
+abbrev pub share_brought : List (List ℕ) → Brought
+share_brought rows = record { rows = rows; cipher = no_cipher }
 
--- an output
-unfoldable pub finished_by : Setting → ℕ → Cipher → Reply × State → Store → Store
-finished_by w c ct (reply.Finished, s) h = grown w s.instances (with_output c ct h)
-finished_by w c ct (other, s) h = h
+abbrev pub cipher_brought : Cipher → Brought
+cipher_brought ct = record { rows = []; cipher = ct }
+
+abbrev pub nothing_brought : Brought
+nothing_brought = share_brought []
+
+-- a circuit that is evaluated has its output
+unfoldable pub with_turn : ℕ → CircuitState → Cipher → Store → Store
+with_turn c (Refused place bound limit) ct h = h
+with_turn c Idle ct h = h
+with_turn c (Taken who) ct h = h
+with_turn c Evaluated ct h = with_output c ct h
+with_turn c Answered ct h = h
+
+-- the last share of a decryption answers its circuit
+unfoldable pub with_share : Setting → Instance → ℕ → List (List ℕ) → Store → Store
+with_share w i p rows h = cond (is_last p i) (with_answer w i.id i.signature (with_rows w i.id rows h)) (with_rows w i.id rows h)
+
+-- what a deed changes by itself
+unfoldable pub with_deed : Setting → Deed → Brought → Store → Store
+with_deed w Nothing b h = h
+with_deed w (Joins p) b h = h
+with_deed w (Loses p) b h = h
+with_deed w (Counts i p) b h = with_share w i p b.rows h
+with_deed w (Gives c k) b h = with_input c k b.cipher h
+with_deed w (Turns c now) b h = with_turn c now b.cipher h
+
+-- the store once it is done, where the instances are then these
+unfoldable pub store_done : Setting → Deed → Brought → List Instance → Store → Store
+store_done w d b is h = if leads_on d then grown w is (with_deed w d b h) else with_deed w d b h

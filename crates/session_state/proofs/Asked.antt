@@ -14,7 +14,7 @@ use Rattle.session_rules.specs.declared.state.CircuitState.{CircuitState}
 use Rattle.session_rules.specs.declared.state.CircuitState.TheVariants.{Evaluated, Answered}
 use Rattle.session_rules.specs.States.{State, circuit}
 use Rattle.session_rules.specs.Issues.{keys}
-use Rattle.session_rules.specs.Steps.{answered_by}
+use Rattle.session_rules.specs.Deeds.{answered_by}
 use Rattle.session_rules.specs.Grounds.{Grounded}
 use Rattle.session_rules.proofs.Shares.{decides_dec, answered_its, answered_other}
 use Rattle.session_spec.specs.Settings.{Setting}

@@ -1,10 +1,10 @@
 -- The brief of an instance that stands is what its table tells of it.
-use Rattle.std.proofs.Common.{◌≡◌, ◌∙◌, sym, ap, subst, refl, ℕ, ◌+◌, ◌-◌, ◌<◌, ◌≤◌, Bool, true, false, not, cond, ◌⊎◌, inl, inr, nat_eq, List, [], length, map, get_or, Some, None, Option, arith}
+use Rattle.std.proofs.Common.{◌≡◌, ◌∙◌, sym, ap, subst, refl, ℕ, ◌+◌, ◌-◌, ◌<◌, Bool, true, false, not, cond, inl, inr, nat_eq, List, [], length, map, get_or, Some, None, Option, arith}
 use Rattle.std.specs.List.{range_with_len, slice_get}
 use Rattle.std.specs.Option.{option_map}
 use Rattle.std.specs.declared.alloc.Global.{Global}
 use Rattle.std.specs.declared.sync.Arc.{Arc}
-use Rattle.std.proofs.lemmas.Bool.{both_ways, ne_eqb, eqb-false, cases_eq}
+use Rattle.std.proofs.lemmas.Bool.{eqb-false, cases_eq}
 use Rattle.std.proofs.lemmas.List.{get_or-map}
 use Rattle.std.proofs.lemmas.Option.{slice_get_within, get_or_from_slice_get}
 use Rattle.param_set.specs.declared.params.Params.{Params}

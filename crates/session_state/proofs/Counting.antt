@@ -16,11 +16,12 @@ use Rattle.proto_names.specs.declared.instance.Stage.TheVariants.{Opened, Comple
 use Rattle.instance_table.specs.Tables.{awaits, stands, told, row_count, row_counts, row_sum, rows_sum, after_rows}
 use Rattle.instance_table.proofs.Places.{told_entry}
 use Rattle.session_rules.specs.declared.fixed.Fixed.{Fixed}
+use Rattle.session_rules.specs.declared.deed.Deed.TheVariants.{Counts}
 use Rattle.session_rules.specs.States.{State}
+use Rattle.session_rules.specs.Deeds.{changed}
 use Rattle.session_rules.specs.Facts.{IsLive, Kept, IsLater, IsSameLater}
-use Rattle.session_rules.proofs.Changes.{counts, after_count}
 use Rattle.session_rules.proofs.Contained.{contains_map, contains_map_from}
-use Rattle.session_rules.proofs.Keeps.{change_next}
+use Rattle.session_rules.proofs.Keeps.{count_next}
 use Rattle.session_rules.proofs.Later.{later_lives}
 use Rattle.session_rules.proofs.Marks.{IsDone, lacks_from, instance_within, one_number, numbered_at}
 use Rattle.session_rules.specs.Fixing.{fixed_from}
@@ -105,8 +106,8 @@ module _ (f : Fixed) (s : State) (id p rows : ℕ) (i : Instance) (k : Kept f s)
       awaits_by p i (instance s.instances id) w.issued l
 
   -- the state then, with the circuits as the rules have them
-  pub counted_next : Kept f (after_count i p s) × IsLater s (after_count i p s)
-  counted_next = change_next 0 f s (after_count i p s) k (counts id p i w.issued w.member (rw w.opened refl) w.unsent refl)
+  pub counted_next : Kept f (changed (Counts i p) s) × IsLater s (changed (Counts i p) s)
+  counted_next = count_next f s i p (record { within = within; opened = w.opened; member = w.member; unsent = w.unsent }) k
 
   itself : (j : Instance) → Contains s.instances j → j.id ≡ id → j ≡ i
   itself j m e = one_number s.instances j i k.numbered m within (e ∙ sym w.number)
@@ -185,11 +186,12 @@ module _ (p : Params) (f : Fixed) (s : State) (id party rows : ℕ) (i : Instanc
   abbrev Then : State
   Then = record s { instances = after_share id party s.instances }
 
-  then_is : after_count i party s ≡ Then
-  then_is = rw (ne_eqb (missing party i) 0 more) (ap (λ (n : ℕ). record s { instances = after_share n party s.instances }) want.number)
+  pub more_is : changed (Counts i party) s ≡ Then
+  unfolding changed
+  more_is = rw (ne_eqb (missing party i) 0 more) (ap (λ (n : ℕ). record s { instances = after_share n party s.instances }) want.number)
 
   more_next : Kept f Then × IsLater s Then
-  more_next = subst (λ (z : State). Kept f z × IsLater s z) then_is (counted_next f s id party rows i k want)
+  more_next = subst (λ (z : State). Kept f z × IsLater s z) more_is (counted_next f s id party rows i k want)
 
   still_open : IsDone Pk (with_share party i) → ⊥
   unfolding with_share

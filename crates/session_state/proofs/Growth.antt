@@ -23,12 +23,13 @@ use Rattle.proto_names.specs.declared.instance.Instance.{Instance}
 use Rattle.instance_table.specs.declared.brief.Brief.{Brief}
 use Rattle.session_rules.specs.declared.state.CircuitState.{CircuitState}
 use Rattle.session_rules.specs.declared.fixed.Fixed.{Fixed}
-use Rattle.session_rules.specs.States.{State, seen, circuit}
-use Rattle.session_rules.specs.Issues.{instances_after, moves_in, most_moves, issue}
-use Rattle.session_rules.specs.Facts.{IsLive, Numbered, Kept, is_settled}
+use Rattle.session_rules.specs.States.{State, circuit}
+use Rattle.session_rules.specs.Issues.{instances_after, issue}
+use Rattle.session_rules.specs.Facts.{IsLive, Numbered, Kept}
 use Rattle.session_rules.proofs.Contained.{find_some}
 use Rattle.session_rules.proofs.Marks.{done_is, numbered_at}
-use Rattle.session_rules.proofs.Weights.{issued_folds}
+use Rattle.session_rules.proofs.Stepwise.{issue_beside, beside_is}
+use Rattle.session_rules.proofs.Weights.{issue_is_its_moves}
 use Rattle.session_spec.specs.Settings.{Setting, Offer}
 use Rattle.session_spec.specs.Stores.{Store, held_polys, held_sums, held_output, cipher_or, key_by, held_key, polys_by, polys_told as polys_for, zero_sums, grown}
 use Rattle.session_spec.specs.Outputs.{key_instance}
@@ -36,7 +37,7 @@ use Rattle.session_spec.specs.Laws.{Matches}
 use Rattle.session_state.proofs.LastShares.{evaluated_there}
 use Rattle.session_rules.specs.declared.state.CircuitState.TheVariants.{Evaluated}
 use Rattle.session_state.specs.Parts.{setting_by, store_by, polys_in, AreTold, HasCipher, Holds}
-use Rattle.session_state.specs.Issuings.{move_of, polys_told, brief_of, sums_of, polys_due, IsFresh}
+use Rattle.session_state.specs.Issuings.{move_of, brief_of, sums_of, IsPlanned}
 use Rattle.session_state.specs.declared.issuing.Step.{Step}
 use Rattle.session_state.proofs.Behind.{IsOpened, behind, by_signatures, due_again, zeros_again, told_again, grown_lists}
 
@@ -163,27 +164,23 @@ keyed_more w s h more m numbered opened =
 
 -- ---- what is issued by a plan, in a table
 
-pub record IsIssued (p : Params) (f : Fixed) (present : ℕ) (is js : List Instance) (cs : List CircuitState) (outputs : List (Option Cipher)) (briefs now_briefs : List (Arc Brief Global)) (sums now_sums : List (List (List ℕ))) (xs : List Step) : Type 0 where
-  pub moves : map move_of xs ≡ moves_in (most_moves f) f present is cs
-  pub instances : js ≡ fold instances_after is (map move_of xs)
+pub record IsIssued (p : Params) (f : Fixed) (s : State) (js : List Instance) (outputs : List (Option Cipher)) (briefs now_briefs : List (Arc Brief Global)) (sums now_sums : List (List (List ℕ))) (xs : List Step) : Type 0 where
+  pub planned : IsPlanned p f s outputs xs
+  pub instances : js ≡ fold instances_after s.instances (map move_of xs)
   pub briefs_are : now_briefs ≡ briefs ++ map brief_of xs
   pub sums_are : now_sums ≡ sums ++ map sums_of xs
-  pub polys : map polys_told xs ≡ map (polys_due outputs) xs
-  pub fresh_ : All (IsFresh p) xs
 
 -- as the rules say
-pub issued_state : (p : Params) (f : Fixed) (present : ℕ) (is js : List Instance) (given : List (List Bool)) (cs : List CircuitState) (outputs : List (Option Cipher)) (briefs now_briefs : List (Arc Brief Global)) (sums now_sums : List (List (List ℕ))) (xs : List Step)
-    → IsIssued p f present is js cs outputs briefs now_briefs sums now_sums xs → seen present js given cs ≡ issue f (seen present is given cs)
-unfolding issue
-issued_state p f present is js given cs outputs briefs now_briefs sums now_sums xs r =
-    ap (λ (ks : List Instance). seen present ks given cs)
-    (r.instances ∙ ap (fold instances_after is) r.moves ∙ sym (issued_folds (most_moves f) f present is cs))
+pub issued_state : (p : Params) (f : Fixed) (s : State) (js : List Instance) (outputs : List (Option Cipher)) (briefs now_briefs : List (Arc Brief Global)) (sums now_sums : List (List (List ℕ))) (xs : List Step)
+    → IsIssued p f s js outputs briefs now_briefs sums now_sums xs → record s { instances = js } ≡ issue f s
+issued_state p f s js outputs briefs now_briefs sums now_sums xs r =
+    ap (λ (ks : List Instance). record s { instances = ks }) (r.instances ∙ ap (fold instances_after s.instances) r.planned.moves ∙ sym (issue_is_its_moves f s))
+    ∙ sym (beside_is s (issue f s) (issue_beside f s))
 
-founded : (f : Fixed) (present : ℕ) (is js more : List Instance) (given : List (List Bool)) (cs : List CircuitState) → js ≡ is ++ more → All IsOpened more → Kept f (seen present js given cs) → AreFounded cs more
-founded f present is js more given cs e opened k i within c d =
-    let there : Contains js i = subst (λ (ks : List Instance). Contains ks i) (sym e) (Contains-append_right is more i within) in
-    let evaluated = (k.decrypts i there).opened c d (All-contains IsOpened more i opened within) in
-    evaluated
+founded : (f : Fixed) (s : State) (js more : List Instance) → js ≡ s.instances ++ more → All IsOpened more → Kept f (record s { instances = js }) → AreFounded s.circuits more
+founded f s js more e opened k i within c d =
+    let there : Contains js i = subst (λ (ks : List Instance). Contains ks i) (sym e) (Contains-append_right s.instances more i within) in
+    (k.decrypts i there).opened c d (All-contains IsOpened more i opened within)
 
 pub record Grows (p : Params) (w : Setting) (s : State) (js : List Instance) (h later : Store) : Type 0 where
   pub store : later ≡ grown w js h
@@ -191,30 +188,30 @@ pub record Grows (p : Params) (w : Setting) (s : State) (js : List Instance) (h 
   pub holds : Holds p (record s { instances = js }) later
   pub keyed : held_key w later js ≡ held_key w h s.instances
 
-pub grows : (p : Params) (public : List ℕ) (offers : List Offer) (f : Fixed) (present : ℕ) (is js : List Instance) (given : List (List Bool)) (cs : List CircuitState)
+pub grows : (p : Params) (public : List ℕ) (offers : List Offer) (f : Fixed) (s : State) (js : List Instance)
     (inputs : List (List (Option (Arc Cipher Global)))) (outputs : List (Option Cipher)) (answers : List (Option (List ℕ))) (briefs now_briefs : List (Arc Brief Global)) (sums now_sums : List (List (List ℕ))) (xs : List Step)
-    → IsIssued p f present is js cs outputs briefs now_briefs sums now_sums xs
-    → Matches (setting_by p public offers) (seen present is given cs) (store_by briefs sums inputs outputs answers)
-    → Holds p (seen present is given cs) (store_by briefs sums inputs outputs answers)
-    → Numbered is → Kept f (seen present js given cs)
-    → Grows p (setting_by p public offers) (seen present is given cs) js (store_by briefs sums inputs outputs answers) (store_by now_briefs now_sums inputs outputs answers)
-grows p public offers f present is js given cs inputs outputs answers briefs now_briefs sums now_sums xs r m o numbered kept =
+    → IsIssued p f s js outputs briefs now_briefs sums now_sums xs
+    → Matches (setting_by p public offers) s (store_by briefs sums inputs outputs answers)
+    → Holds p s (store_by briefs sums inputs outputs answers)
+    → Numbered s.instances → Kept f (record s { instances = js })
+    → Grows p (setting_by p public offers) s js (store_by briefs sums inputs outputs answers) (store_by now_briefs now_sums inputs outputs answers)
+grows p public offers f s js inputs outputs answers briefs now_briefs sums now_sums xs r m o numbered kept =
     let w : Setting = setting_by p public offers in
-    let s : State = seen present is given cs in
+    let is = s.instances in
     let h : Store = store_by briefs sums inputs outputs answers in
     let b = behind is xs in
     let all : js ≡ is ++ b.more = r.instances ∙ b.all in
     let told : map polys_in now_briefs ≡ map polys_in briefs ++ map (polys_for h) b.more =
     ap (map polys_in) r.briefs_are ∙ map-append polys_in briefs (map brief_of xs)
     ∙ ap (λ (zs : List (List (List ℕ))). map polys_in briefs ++ zs)
-    (told_again xs ∙ r.polys ∙ sym (due_again h outputs xs refl) ∙ sym (by_signatures (polys_by h) b.more xs b.signatures)) in
+    (told_again xs ∙ r.planned.polys ∙ sym (due_again h outputs xs refl) ∙ sym (by_signatures (polys_by h) b.more xs b.signatures)) in
     let zeros : now_sums ≡ sums ++ map (zero_sums w) b.more =
     r.sums_are ∙ ap (λ (zs : List (List (List ℕ))). sums ++ zs)
-    (sym (zeros_again p public offers xs r.fresh_)
+    (sym (zeros_again p public offers xs r.planned.fresh)
     ∙ sym (by_signatures (λ (σ : Signature). replicate (rows_of σ (digit_rows p.q p.digit_bits)) (replicate p.n 0)) b.more xs b.signatures)) in
     let later : store_by now_briefs now_sums inputs outputs answers ≡ with_more w b.more h =
     ap₂ (λ (x y : List (List (List ℕ))). record h { told = x; sums = y }) told zeros in
-    let f_ : AreFounded cs b.more = founded f present is js b.more given cs all b.opened kept in
+    let f_ : AreFounded s.circuits b.more = founded f s js b.more all b.opened kept in
     let grows_ : Grows p w s (is ++ b.more) h (with_more w b.more h) = record {
       store = sym (grown_lists w h is b.more (m.told) (m.sums));
       matches = matches_more w s h b.more m;

@@ -15,9 +15,9 @@ use Rattle.session_rules.specs.declared.fixed.Fixed.{Fixed}
 use Rattle.session_rules.specs.declared.state.CircuitState.{CircuitState}
 use Rattle.session_rules.specs.declared.state.CircuitState.TheVariants.{Evaluated, Answered}
 use Rattle.session_rules.specs.States.{State, circuit}
-use Rattle.session_rules.specs.Steps.{answered_by}
+use Rattle.session_rules.specs.declared.deed.Deed.TheVariants.{Counts}
+use Rattle.session_rules.specs.Deeds.{answered_by, changed}
 use Rattle.session_rules.specs.Facts.{is_settled, Kept, IsLater}
-use Rattle.session_rules.proofs.Changes.{after_count}
 use Rattle.session_rules.proofs.Contained.{contains_map}
 use Rattle.session_rules.proofs.Marks.{instance_within}
 use Rattle.session_spec.specs.Settings.{Setting}
@@ -44,12 +44,13 @@ module _ (p : Params) (f : Fixed) (s : State) (id party rows : ℕ) (i : Instanc
   abbrev Then : State
   Then = last_counted s i id party
 
-  then_is : after_count i party s ≡ Then
-  then_is = rw (eq-eqb (missing party i) 0 last) (ap (λ (n : ℕ). record s { instances = after_share n party s.instances; circuits = answered_by i.signature s.circuits }) want.number)
+  pub last_is : changed (Counts i party) s ≡ Then
+  unfolding changed
+  last_is = rw (eq-eqb (missing party i) 0 last) (ap (λ (n : ℕ). record s { instances = after_share n party s.instances; circuits = answered_by i.signature s.circuits }) want.number)
 
   -- what holds then
   pub last_next : Kept f Then × IsLater s Then
-  last_next = subst (λ (z : State). Kept f z × IsLater s z) then_is (counted_next f s id party rows i k want)
+  last_next = subst (λ (z : State). Kept f z × IsLater s z) last_is (counted_next f s id party rows i k want)
 
   same_length : length (after_share id party s.instances) ≡ length s.instances
   unfolding after_share

@@ -2,9 +2,6 @@ pub mod Planned
 pub mod Steps
 pub mod Behind
 pub mod Growth
-pub mod Joins
-pub mod Finishes
-pub mod Judging
 pub mod Keys
 pub mod Counting
 pub mod LastShares
@@ -15,3 +12,6 @@ pub mod Rows
 pub mod Givings
 pub mod Takings
 pub mod Openings
+pub mod Leading
+pub mod Onward
+pub mod Ended

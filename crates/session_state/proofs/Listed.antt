@@ -1,17 +1,15 @@
 -- Lists that are put together item by item, each item made from one of another list.
-use Rattle.std.proofs.Common.{◌≡◌, ◌∙◌, sym, ap, refl, ℕ, zero, suc, ◌+◌, ◌<◌, List, [], ◌∷◌, ◌++◌, length, map, take, get_or, replicate, Option, Some, None, arith}
+use Rattle.std.proofs.Common.{◌≡◌, ◌∙◌, sym, ap, refl, ℕ, zero, suc, ◌+◌, ◌<◌, List, [], ◌∷◌, ◌++◌, length, map, take, get_or, replicate, Option, None}
 use Rattle.std.proofs.lemmas.List.{take_more, map-append}
 use Rattle.std.specs.declared.alloc.Global.{Global}
 use Rattle.std.specs.declared.sync.Arc.{Arc}
 use Rattle.ring_spec.specs.Pairs.{Cipher}
 use Rattle.noise_ledger.specs.Bounds.{Numbers}
-use Rattle.circuit_form.specs.declared.node.Node.{Node}
 use Rattle.session_rules.specs.declared.fixed.Plan.{Plan}
 use Rattle.session_rules.specs.Fixing.{plan_of}
-use Rattle.session_rules.specs.States.{none_given, no_plan}
+use Rattle.session_rules.specs.States.{none_given}
 use Rattle.session_spec.specs.Settings.{Offer, nodes_of, no_offer}
-use Rattle.session_spec.specs.Stores.{no_inputs, cipher_or}
-use Rattle.session_state.specs.Shared.{shared_if}
+use Rattle.session_spec.specs.Stores.{no_inputs}
 use Rattle.session_state.specs.Parts.{ciphers_in}
 
 -- what is made of the items up to one more

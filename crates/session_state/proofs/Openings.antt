@@ -1,16 +1,16 @@
 -- A session at its opening: which keys circuits without key switches need, and that nothing is held yet.
-use Rattle.std.proofs.Common.{◌≡◌, ◌≢◌, ◌∙◌, sym, ap, subst, refl, ℕ, zero, suc, ◌-◌, ◌*◌, ◌<◌, ◌≤◌, Bool, true, false, not, cond, ◌&&◌, ◌||◌, nat_eq, nat_lt, ◌⊎◌, inl, inr, List, [], ◌∷◌, ◌++◌, length, map, filter, replicate, get_or, Option, Some, None, arith}
+use Rattle.std.proofs.Common.{◌≡◌, ◌∙◌, sym, ap, subst, refl, ℕ, zero, suc, ◌-◌, ◌*◌, ◌<◌, ◌≤◌, Bool, true, false, not, cond, ◌&&◌, ◌||◌, nat_eq, nat_lt, inl, inr, List, [], ◌∷◌, ◌++◌, length, map, filter, replicate, get_or, Option, Some, None, arith}
 use Rattle.std.specs.Prelude.{All}
 use Rattle.std.specs.List.{range_with_len, list_any, slice_get}
 use Rattle.std.proofs.lemmas.Bool.{both_ways, cases_lt, and_parts, not-true, lt-ltb}
-use Rattle.std.proofs.lemmas.List.{get_or-map, get_or_past, get_or_default, get_or-replicate, length-map, length-replicate}
+use Rattle.std.proofs.lemmas.List.{get_or-map, get_or_past, get_or-replicate, length-map, length-replicate}
 use Rattle.std.proofs.lemmas.List.Elements.{All-from_get_or, All-get_or}
 use Rattle.std.proofs.lemmas.List.Folds.{list_any_none}
 use Rattle.ring_spec.specs.Pairs.{Cipher}
 use Rattle.param_set.specs.declared.params.Params.{Params}
 use Rattle.circuit_form.specs.declared.node.Node.{Node}
 use Rattle.circuit_form.specs.declared.node.Node.TheVariants.{Input, Const, Add, Sub, Neg, Mul, Rot}
-use Rattle.circuit_form.specs.Circuits.{first_fault, first_wrong, owners, has_product, has_rot, is_turn}
+use Rattle.circuit_form.specs.Circuits.{first_fault, first_wrong, owners, has_product, is_turn}
 use Rattle.cipher_spec.specs.Ciphers.{is_switch_free, is_rotation}
 use Rattle.noise_ledger.specs.Bounds.{Numbers, numbers_of}
 use Rattle.proto_names.specs.Instances.{instance}
@@ -26,15 +26,15 @@ use Rattle.session_rules.specs.Facts.{Kept, is_begun, is_settled}
 use Rattle.session_rules.specs.Grounds.{Grounded}
 use Rattle.session_rules.proofs.Grounds.{opening_grounds}
 use Rattle.session_rules.proofs.Whole.{circuits_are_whole}
-use Rattle.session_rules.specs.States.{State, seen, circuit, plan, no_plan, is_admitted, is_given, none_given, opening_of, opening}
+use Rattle.session_rules.specs.States.{State, seen, circuit, plan, no_plan, is_admitted, none_given, opening_of, opening}
 use Rattle.session_rules.specs.Issues.{keys, wants_key, wants_relin}
 use Rattle.session_rules.specs.Fixing.{plan_of, fixed_from, rotates, admits_turn, is_turned}
-use Rattle.session_spec.specs.Settings.{Setting, Offer, nodes_of, nodes_at, no_offer, rules, input_count, Keeps, IsSetting}
+use Rattle.session_spec.specs.Settings.{Setting, Offer, nodes_of, nodes_at, no_offer, rules, Keeps}
 use Rattle.session_spec.specs.Stores.{Store, no_inputs, empty, held_key}
 use Rattle.session_spec.specs.Outputs.{key_instance}
 use Rattle.session_spec.specs.Laws.{count_inputs, Matches}
 use Rattle.session_state.specs.Parts.{setting_by, Holds, IsPk}
-use Rattle.session_state.proofs.Rows.{rules_plans, rules_number, plan_inputs, row_length}
+use Rattle.session_state.proofs.Rows.{rules_number, plan_inputs, row_length}
 
 -- ---- the rules
 

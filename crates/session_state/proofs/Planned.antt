@@ -1,10 +1,12 @@
 -- Where no first round is complete and the public key is the only key that is needed, the rules of issue give
 -- nothing up, and decrypt only what is evaluated.
 use Rattle.std.proofs.Common.{◌≡◌, ◌≢◌, ◌∙◌, sym, ap, subst, refl, ℕ, zero, suc, ◌<◌, ◌≤◌, Bool, true, false, ◌&&◌, ◌⊎◌, inl, inr, List, [], ◌∷◌, length, get_or, Contains, Option, Some, None, arith}
-use Rattle.std.specs.Prelude.{All, nat_eq, if◌then◌else◌}
+use Rattle.std.specs.Prelude.{All, Result, Ok, Err, IfOk, nat_eq, if◌then◌else◌}
 use Rattle.std.proofs.lemmas.Bool.{both_ways, false_from_ne_true}
 use Rattle.std.proofs.lemmas.List.Elements.{All-nil, All-cons, All-contains, All-get_or}
 use Rattle.std.proofs.lemmas.List.Folds.{list_any-append}
+use Rattle.ring_spec.specs.Pairs.{Cipher}
+use Rattle.param_set.specs.declared.params.Params.{Params}
 use Rattle.proto_names.specs.Names.{same}
 use Rattle.proto_names.specs.Instances.{is_done, fresh, with_share, counted_at, after_share}
 use Rattle.proto_names.specs.declared.signature.Signature.{Signature}
@@ -16,14 +18,16 @@ use Rattle.session_rules.specs.declared.state.CircuitState.TheVariants.{Evaluate
 use Rattle.session_rules.specs.declared.moves.Move.{Move}
 use Rattle.session_rules.specs.declared.moves.Move.TheVariants.{GiveUp, Issue}
 use Rattle.session_rules.specs.declared.fixed.Fixed.{Fixed}
-use Rattle.session_rules.specs.States.{circuit, has_done}
-use Rattle.session_rules.specs.Issues.{keys, next_move, least_present, instances_after, moves_in, most_moves}
+use Rattle.session_rules.specs.States.{State, seen, circuit, has_done}
+use Rattle.session_rules.specs.Issues.{keys, next_move, least_present, instances_after, moved, moves_in, moves, most_moves}
 use Rattle.session_rules.proofs.Contained.{contains_map_from}
 use Rattle.session_rules.proofs.MoveKinds.{MoveIs, gives_up, second, other, move_is, IsNeeded, key, decryption}
 use Rattle.session_rules.proofs.Issued.{done_here, done_one}
-use Rattle.session_rules.proofs.Weights.{moves_at_most}
+use Rattle.session_rules.proofs.Weights.{moves_are_few}
+use Rattle.session_rules.proofs.Planned.{moves_given}
 use Rattle.session_state.specs.Parts.{IsPk}
-use Rattle.session_state.specs.Issuings.{IsIssue, Decrypts}
+use Rattle.session_state.specs.Issuings.{IsIssue, Decrypts, IsPlanned}
+use Rattle.session_state.specs.declared.issuing.Step.{Step}
 
 -- a move that issues, and the decryption of a circuit only if that is evaluated
 pub record IsDue (circuits : List CircuitState) (m : Move) : Type 0 where
@@ -35,11 +39,11 @@ due_issue circuits σ set f only (key within) = record { issues = tt; evaluated 
 due_issue circuits σ set f only (decryption d is within e) =
     record { issues = tt; evaluated = λ c so. let at : d ≡ c = cc in subst (λ (x : ℕ). circuit circuits x ≡ Evaluated) at e }
 
-move_due : (f : Fixed) (present : ℕ) (is : List Instance) (circuits : List CircuitState) (m : Move) → All IsPk (keys f) → has_done Rlk1 is ≡ false → MoveIs f present is circuits m → IsDue circuits m
-move_due f present is circuits m only none (gives_up i by unused within done out e) = absurd (both_ways (has_done Rlk1 is) none (done_here Rlk1 is i within done))
-move_due f present is circuits m only none (second i unused within done all needed e) = absurd (both_ways (has_done Rlk1 is) none (done_here Rlk1 is i within done))
-move_due f present is circuits m only none (other σ first unused many needed e) =
-    subst (λ (x : Move). IsDue circuits x) (sym e) (due_issue circuits σ (least_present f present) f only needed)
+move_due : (f : Fixed) (s : State) (m : Move) → All IsPk (keys f) → has_done Rlk1 s.instances ≡ false → MoveIs f s m → IsDue s.circuits m
+move_due f s m only none (gives_up i by unused within done out e) = absurd (both_ways (has_done Rlk1 s.instances) none (done_here Rlk1 s.instances i within done))
+move_due f s m only none (second i unused within done all needed e) = absurd (both_ways (has_done Rlk1 s.instances) none (done_here Rlk1 s.instances i within done))
+move_due f s m only none (other σ first unused many needed e) =
+    subst (λ (x : Move). IsDue s.circuits x) (sym e) (due_issue s.circuits σ (least_present f s) f only needed)
 
 -- a new instance is not complete
 none_fresh : (is : List Instance) (σ : Signature) (set : PartySet) (round1 : ℕ) → is_done Rlk1 (fresh is σ set round1) ≡ false
@@ -57,32 +61,41 @@ none_then is (GiveUp id by) issues none = absurd issues
 none_then is (Issue σ set round1) issues none =
     rw (list_any-append (is_done Rlk1) is (fresh is σ set round1 ∷ []), none, none_fresh is σ set round1) refl
 
-due_then : (n : ℕ) (f : Fixed) (present : ℕ) (is : List Instance) (circuits : List CircuitState) → All IsPk (keys f) → has_done Rlk1 is ≡ false
-    → ((now : List Instance) → has_done Rlk1 now ≡ false → All (IsDue circuits) (moves_in n f present now circuits))
-    → (m : Option Move) → next_move f present is circuits ≡ m → All (IsDue circuits) (elim m as (λ x. List Move) [
+due_then : (n : ℕ) (f : Fixed) (s : State) → All IsPk (keys f) → has_done Rlk1 s.instances ≡ false → ((t : State) → has_done Rlk1 t.instances ≡ false → All (IsDue t.circuits) (moves_in n f t))
+    → (o : Option Move) → next_move f s ≡ o → All (IsDue s.circuits) (elim o as (λ x. List Move) [
       | None ↦ []
-      | Some m ↦ m ∷ moves_in n f present (instances_after is m) circuits
+      | Some m ↦ m ∷ moves_in n f (moved s m)
     ])
-due_then n f present is circuits only none more None e = All-nil (IsDue circuits)
-due_then n f present is circuits only none more (Some m) e =
-    let due = move_due f present is circuits m only none (move_is f present is circuits m e) in
-    All-cons (IsDue circuits) m (moves_in n f present (instances_after is m) circuits) due (more (instances_after is m) (none_then is m due.issues none))
+unfolding moved
+due_then n f s only none more None e = All-nil (IsDue s.circuits)
+due_then n f s only none more (Some m) e =
+    let due = move_due f s m only none (move_is f s m e) in
+    All-cons (IsDue s.circuits) m (moves_in n f (moved s m)) due (more (moved s m) (none_then s.instances m due.issues none))
 
-pub moves_due : (n : ℕ) (f : Fixed) (present : ℕ) (is : List Instance) (circuits : List CircuitState) → All IsPk (keys f) → has_done Rlk1 is ≡ false → All (IsDue circuits) (moves_in n f present is circuits)
+moves_due : (n : ℕ) (f : Fixed) (s : State) → All IsPk (keys f) → has_done Rlk1 s.instances ≡ false → All (IsDue s.circuits) (moves_in n f s)
 unfolding moves_in
-moves_due zero f present is circuits only none = All-nil (IsDue circuits)
-moves_due (suc n) f present is circuits only none =
-    due_then n f present is circuits only none (λ now h. moves_due n f present now circuits only h) (next_move f present is circuits) refl
+moves_due zero f s only none = All-nil (IsDue s.circuits)
+moves_due (suc n) f s only none = due_then n f s only none (λ t h. moves_due n f t only h) (next_move f s) refl
 
 -- ---- the moves that are planned
 
-pub few_moves : (f : Fixed) (present : ℕ) (is : List Instance) (circuits : List CircuitState) (ms : List Move) → ms ≡ moves_in (most_moves f) f present is circuits → length ms ≤ most_moves f
-few_moves f present is circuits ms e = omega (arith, ap length e, moves_at_most (most_moves f) f present is circuits)
+pub few_moves : (f : Fixed) (s : State) (ms : List Move) → ms ≡ moves f s → length ms ≤ most_moves f
+few_moves f s ms e = omega (arith, ap length e, moves_are_few f s)
 
-pub due_at : (f : Fixed) (present : ℕ) (is : List Instance) (circuits : List CircuitState) (ms : List Move) (k : ℕ) (d : Move) → ms ≡ moves_in (most_moves f) f present is circuits → All IsPk (keys f) → has_done Rlk1 is ≡ false
-    → k < length ms → IsDue circuits (get_or ms k d)
-due_at f present is circuits ms k d e only none l =
-    All-get_or (IsDue circuits) ms k d l (subst (λ (xs : List Move). All (IsDue circuits) xs) (sym e) (moves_due (most_moves f) f present is circuits only none))
+pub due_at : (f : Fixed) (s : State) (ms : List Move) (k : ℕ) (d : Move) → ms ≡ moves f s → All IsPk (keys f) → has_done Rlk1 s.instances ≡ false → k < length ms → IsDue s.circuits (get_or ms k d)
+unfolding moves
+due_at f s ms k d e only none l =
+    All-get_or (IsDue s.circuits) ms k d l (subst (λ (xs : List Move). All (IsDue s.circuits) xs) (sym e) (moves_due (most_moves f) f s only none))
+
+-- a plan is one for all that may be given
+pub planned_given : (p : Params) (f : Fixed) (present : ℕ) (is : List Instance) (given : List (List Bool)) (circuits : List CircuitState) (outputs : List (Option Cipher)) (steps : List Step)
+    → IsPlanned p f (seen present is [] circuits) outputs steps → IsPlanned p f (seen present is given circuits) outputs steps
+planned_given p f present is given circuits outputs steps r = record {
+  moves = r.moves ∙ sym (moves_given f present is given circuits);
+  ids = r.ids;
+  polys = r.polys;
+  fresh = r.fresh;
+}
 
 -- ---- no first round
 
@@ -114,3 +127,18 @@ no_first_after_share f is id p only asked =
     let d = done_one Rlk1 (after_share id p is) h in
     let c = contains_map_from (counted_at id p) is d.item d.within in
     no_first f c.source only (asked c.source c.within) (sym (counted_signature id p c.source) ∙ ap (λ (z : Instance). z.signature) c.same ∙ d.done.signature))
+
+-- ---- a plan, for the same parameters, rules, instances and circuits
+
+pub plan_for : (p q : Params) (f g : Fixed) (present : ℕ) (is js : List Instance) (given : List (List Bool)) (cs ds : List CircuitState) (outputs : List (Option Cipher)) (steps : List Step) → p ≡ q → f ≡ g → is ≡ js → cs ≡ ds
+    → IsPlanned p f (seen present is [] cs) outputs steps → IsPlanned q g (seen present js given ds) outputs steps
+plan_for p q f g present is js given cs ds outputs steps a b c d r =
+    planned_given q g present js given ds outputs steps
+    (subst (λ (z : Params). IsPlanned z g (seen present js [] ds) outputs steps) a
+    (subst (λ (z : Fixed). IsPlanned p z (seen present js [] ds) outputs steps) b
+    (subst (λ (z : List Instance). IsPlanned p f (seen present z [] ds) outputs steps) c
+    (subst (λ (z : List CircuitState). IsPlanned p f (seen present is [] z) outputs steps) d r))))
+
+pub ok_then : {A E : Type 0} (r : Result A E) (P Q : A → Type 0) → ((x : A) → P x → Q x) → IfOk r P → IfOk r Q
+ok_then (Ok x) P Q h p = h x p
+ok_then (Err e) P Q h p = p

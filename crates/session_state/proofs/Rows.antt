@@ -1,5 +1,5 @@
 -- The rows of a session's inputs: how many there are, how long each is, and one entry of one of them.
-use Rattle.std.proofs.Common.{◌≡◌, ◌≢◌, ◌∙◌, sym, ap, refl, ℕ, zero, suc, ◌<◌, ◌≤◌, Bool, true, false, ◌⊎◌, inl, inr, List, [], ◌∷◌, length, map, get_or, set, Option, Some, None, arith}
+use Rattle.std.proofs.Common.{◌≡◌, ◌≢◌, ◌∙◌, sym, ap, refl, ℕ, ◌<◌, true, inl, inr, List, [], length, map, get_or, set, Option, Some, None, arith}
 use Rattle.std.specs.Prelude.{is_some}
 use Rattle.std.proofs.lemmas.Bool.{cases_lt}
 use Rattle.std.proofs.lemmas.List.{get_or-map, get_or_past, get_or-set_same, get_or-set_other, get_or_default, length-map, map-set}
@@ -12,7 +12,7 @@ use Rattle.noise_ledger.specs.Bounds.{Numbers}
 use Rattle.session_rules.specs.declared.fixed.Plan.{Plan}
 use Rattle.session_rules.specs.States.{State, plan, no_plan}
 use Rattle.session_rules.specs.Fixing.{plan_of, fixed_from}
-use Rattle.session_spec.specs.Settings.{Setting, Offer, nodes_of, nodes_at, no_offer, rules, input_count}
+use Rattle.session_spec.specs.Settings.{Setting, nodes_of, nodes_at, no_offer, rules, input_count}
 use Rattle.session_spec.specs.Stores.{Store}
 use Rattle.session_spec.specs.Laws.{count_inputs, Matches}
 use Rattle.session_state.specs.Shared.{shared_if}

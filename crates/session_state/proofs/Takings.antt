@@ -1,91 +1,82 @@
 -- A circuit that is taken: its inputs are there, and what holds of the store holds then.
-use Rattle.std.proofs.Common.{◌≡◌, ◌≢◌, ◌∙◌, sym, ap, subst, refl, ℕ, zero, suc, ◌<◌, ◌≤◌, Bool, true, false, ◌&&◌, ◌⊎◌, inl, inr, List, [], ◌∷◌, length, map, get_or, set, Option, Some, None, arith, length-set}
+use Rattle.std.proofs.Common.{◌≡◌, ◌∙◌, sym, ap, subst, refl, ℕ, ◌<◌, true, inl, inr, List, [], length, map, get_or, set, Option, Some, None, arith, length-set}
 use Rattle.std.specs.Prelude.{is_some, All, Result, Ok, Err, OnErr}
-use Rattle.std.specs.List.{range_with_len, list_all}
 use Rattle.std.specs.declared.alloc.Global.{Global}
 use Rattle.std.specs.declared.sync.Arc.{Arc}
-use Rattle.std.proofs.lemmas.Bool.{both_ways, cases_eq, and_parts}
-use Rattle.std.proofs.lemmas.List.{get_or-map, get_or-set_same, get_or-set_other, get_or_default, length-map}
+use Rattle.std.proofs.lemmas.Bool.{both_ways, cases_eq}
+use Rattle.std.proofs.lemmas.List.{get_or-map, get_or-set_same, get_or-set_other, length-map}
 use Rattle.std.proofs.lemmas.List.Elements.{All-from_get_or, All-get_or}
 use Rattle.ring_spec.specs.Pairs.{Cipher}
 use Rattle.bfv_core.specs.Fits.{CipherFits}
 use Rattle.cipher_spec.specs.Ciphers.{no_cipher}
-use Rattle.circuit_form.specs.Circuits.{first_fault, owners}
-use Rattle.cipher_spec.specs.Ciphers.{is_switch_free}
 use Rattle.param_set.specs.declared.params.Params.{Params}
 use Rattle.session_rules.specs.declared.fixed.Fixed.{Fixed}
+use Rattle.session_rules.specs.declared.call.Call.TheVariants as call
 use Rattle.session_rules.specs.declared.reply.Reply.{Reply}
 use Rattle.session_rules.specs.declared.reply.Reply.TheVariants as reply
 use Rattle.session_rules.specs.declared.state.CircuitState.{CircuitState}
-use Rattle.session_rules.specs.declared.state.CircuitState.TheVariants.{Taken, Answered}
-use Rattle.session_rules.specs.States.{State, seen, plan, circuit, is_given, is_idle}
-use Rattle.session_rules.specs.Steps.{take, next_ready, ready, has_keys, is_given_input, with_circuit}
+use Rattle.session_rules.specs.declared.state.CircuitState.TheVariants.{Refused, Idle, Taken, Evaluated, Answered}
+use Rattle.session_rules.specs.declared.deed.Deed.{Deed}
+use Rattle.session_rules.specs.declared.deed.Deed.TheVariants.{Turns}
+use Rattle.session_rules.specs.declared.deed.Verdict.{Verdict}
+use Rattle.session_rules.specs.States.{State, seen, circuit}
+use Rattle.session_rules.specs.Deeds.{with_circuit}
+use Rattle.session_rules.specs.Steps.{says, does, take, next_ready, ready, has_keys}
 use Rattle.session_rules.specs.Facts.{is_settled}
 use Rattle.session_rules.specs.Grounds.{Grounded}
-use Rattle.session_rules.proofs.Contained.{find_some, range_within}
-use Rattle.session_spec.specs.Settings.{Setting, Offer, rules, nodes_at, no_offer, input_count, Keeps, IsSetting}
+use Rattle.session_rules.specs.Allowed.{MayTurn, Allows}
+use Rattle.session_rules.proofs.Readiness.{all_at, ready_is}
+use Rattle.session_spec.specs.Settings.{Setting, rules, no_offer, input_count, Keeps, IsSetting}
 use Rattle.session_spec.specs.Stores.{Store, held_input, cipher_or}
 use Rattle.session_spec.specs.Laws.{Matches}
 use Rattle.session_state.specs.Parts.{ciphers_in, IsThere, HasCipher, Holds}
 use Rattle.session_state.specs.Shared.{shared_if}
-use Rattle.session_state.proofs.Rows.{rules_number, plan_inputs, inputs_number, row_number, row_is, pointer_there}
+use Rattle.session_state.proofs.Leading.{fair_take}
+use Rattle.session_state.proofs.Rows.{plan_inputs, row_number, row_is, pointer_there}
 
 -- ---- which one
 
 -- who is present plays no part in it
-pub next_seen : (f : Fixed) (s : State) → next_ready f (seen 0 s.instances s.given s.circuits) ≡ next_ready f s
-unfolding next_ready ready has_keys
-next_seen f s = refl
+pub take_seen : (f : Fixed) (s : State) (who : ℕ) → take f (seen 0 s.instances s.given s.circuits) who ≡ take f s who
+unfolding take next_ready ready has_keys
+take_seen f s who = refl
 
-pub record IsNext (f : Fixed) (s : State) (c : ℕ) : Type 0 where
-  pub within : c < length f.plans
-  pub ready : ready f s c ≡ true
+-- where a circuit comes to a state, it is the least that is ready, and is the caller's then
+pub record IsTheirs (f : Fixed) (s : State) (who : ℕ) (r : Reply) (c : ℕ) (now : CircuitState) : Type 0 where
+  pub next : next_ready f s ≡ Some c
+  pub reply : r ≡ reply.Job c
+  pub taken : now ≡ Taken who
 
-pub next_is : (f : Fixed) (s : State) (c : ℕ) → next_ready f s ≡ Some c → IsNext f s c
-unfolding next_ready
-next_is f s c e =
-    let found = find_some (ready f s) (range_with_len 0 (length f.plans)) c e in
-    let there = range_within 0 (length f.plans) c found.0 in
-    record { within = omega (arith, there.1); ready = found.1 }
+turned_so : (f : Fixed) (s : State) (who : ℕ) (r : Reply) (c : ℕ) (now : CircuitState) → MayTurn f s who call.Take r c now → IsTheirs f s who r c now
+turned_so f s who r c (Refused place bound limit) a = absurd a
+turned_so f s who r c Idle a = let same = a.call in cc
+turned_so f s who r c (Taken its) a = record { next = a.next; reply = a.reply; taken = ap Taken a.who }
+turned_so f s who r c Evaluated a = let same = a.call in cc
+turned_so f s who r c Answered a = absurd a
 
-pub taken_one : (f : Fixed) (s : State) (who c : ℕ) → next_ready f s ≡ Some c → take f s who ≡ (reply.Job c, with_circuit s c (Taken who))
+pub take_turns : (f : Fixed) (s : State) (who c : ℕ) (now : CircuitState) → (take f s who).deed ≡ Turns c now → IsTheirs f s who (take f s who).reply c now
+take_turns f s who c now e = turned_so f s who (take f s who).reply c now (subst (λ (d : Deed). Allows f s who call.Take (take f s who).reply d) e (fair_take f s who))
+
+-- where none does, none is ready
+pub take_none : (f : Fixed) (s : State) (who : ℕ) → ((c : ℕ) (now : CircuitState) → (take f s who).deed ≡ Turns c now → ⊥) → take f s who ≡ says reply.Nothing
 unfolding take
-taken_one f s who c e = at (next_ready f s) e
+take_none f s who = at (next_ready f s)
   where
-    at : (o : Option ℕ) → o ≡ Some c → elim o as (λ _. Reply × State) [
-      | None ↦ (reply.Nothing, s)
-      | Some d ↦ (reply.Job d, with_circuit s d (Taken who))
-    ] ≡ (reply.Job c, with_circuit s c (Taken who))
-    at None z = cc
-    at (Some d) z = let same : d ≡ c = cc in rw same refl
+    asked : Option ℕ → Verdict
+    asked o = elim o [
+      | None ↦ says reply.Nothing
+      | Some c ↦ does (reply.Job c) (Turns c (Taken who))
+    ]
 
-pub taken_none : (f : Fixed) (s : State) (who : ℕ) → next_ready f s ≡ None → take f s who ≡ (reply.Nothing, s)
-unfolding take
-taken_none f s who e = at (next_ready f s) e
-  where
-    at : (o : Option ℕ) → o ≡ None → elim o as (λ _. Reply × State) [
-      | None ↦ (reply.Nothing, s)
-      | Some d ↦ (reply.Job d, with_circuit s d (Taken who))
-    ] ≡ (reply.Nothing, s)
-    at None z = refl
-    at (Some d) z = cc
+    at : (o : Option ℕ) → ((c : ℕ) (now : CircuitState) → (asked o).deed ≡ Turns c now → ⊥) → asked o ≡ says reply.Nothing
+    at None h = refl
+    at (Some c) h = absurd (h c (Taken who) refl)
 
 pub on_err : {T E : Type 0} (r : Result T E) (P : Type 0) → P → OnErr r P
 on_err (Ok x) P p = tt
 on_err (Err e) P p = p
 
 -- ---- its inputs
-
-all_given : (row : List Bool) (k : ℕ) → list_all is_given_input row ≡ true → k < length row → get_or row k false ≡ true
-all_given [] k e l = absurd (omega arith)
-all_given (b ∷ bs) zero e l = (and_parts b (list_all is_given_input bs) e).0
-all_given (b ∷ bs) (suc k) e l = all_given bs k (and_parts b (list_all is_given_input bs) e).1 (omega arith)
-
-given_if_ready : (f : Fixed) (s : State) (c : ℕ) → ready f s c ≡ true → list_all is_given_input (get_or s.given c []) ≡ true
-unfolding ready
-given_if_ready f s c e =
-    let both = and_parts (is_idle (circuit s.circuits c) && list_all is_given_input (get_or s.given c [])) (has_keys s (plan f c)) e in
-    (and_parts (is_idle (circuit s.circuits c)) (list_all is_given_input (get_or s.given c [])) both.0).1
 
 -- a circuit that is ready has as many ciphertexts as inputs, each of which is there and fits
 pub record HasInputs (p : Params) (w : Setting) (h : Store) (c : ℕ) : Type 0 where
@@ -98,7 +89,7 @@ has_inputs p w s h c m holds grounded l e =
     let marks : length (get_or s.given c []) ≡ input_count w c = grounded.rows c ∙ plan_inputs w c in
     record {
       number = many;
-      each = λ k less. holds.inputs c k (all_given (get_or s.given c []) k (given_if_ready (rules w) s c e) (omega arith));
+      each = λ k less. holds.inputs c k (all_at (get_or s.given c []) k (ready_is (rules w) s c e).given (omega arith));
     }
 
 -- so each pointer of its row is there

@@ -1,8 +1,7 @@
 -- What a complete instance gives: the public key, or the answer of a circuit.
-use Rattle.std.specs.Prelude.{◌≡◌, ℕ, ◌+◌, List, [], map, length, slice_index_or, All, Option, ⊤}
-use Rattle.std.specs.List.{range_with_len}
+use Rattle.std.specs.Prelude.{◌≡◌, ℕ, List, [], slice_index_or, ⊤}
 use Rattle.ring_spec.specs.Ring.{IsPoly, ring_sum}
-use Rattle.ring_spec.specs.Pairs.{Cipher, Key}
+use Rattle.ring_spec.specs.Pairs.{Key}
 use Rattle.bfv_spec.specs.Scheme.{decryption}
 use Rattle.bfv_spec.specs.Shares.{pk_from}
 use Rattle.param_set.specs.declared.params.Params.{Params}
@@ -10,14 +9,10 @@ use Rattle.proto_names.specs.declared.signature.Signature.{Signature}
 use Rattle.proto_names.specs.declared.signature.Signature.TheVariants.{Pk, Rlk1, Rlk2, Rot, Dec}
 use Rattle.proto_names.specs.declared.instance.Instance.{Instance}
 use Rattle.proto_names.specs.Instances.{after_share}
-use Rattle.session_rules.specs.declared.fixed.Fixed.{Fixed}
 use Rattle.session_rules.specs.States.{State}
-use Rattle.session_rules.specs.Issues.{moves_in, most_moves}
-use Rattle.session_rules.specs.Steps.{answered_by}
+use Rattle.session_rules.specs.Deeds.{answered_by}
 use Rattle.session_spec.specs.Settings.{Setting}
 use Rattle.session_spec.specs.Stores.{Store, held_output, cipher_or}
-use Rattle.session_state.specs.Issuings.{move_of, id_told, polys_told, polys_due, IsFresh}
-use Rattle.session_state.specs.declared.issuing.Step.{Step}
 use Rattle.session_state.specs.declared.completing.Made.{Made}
 use Rattle.session_state.specs.declared.completing.Made.TheVariants.{PublicKey, Answer}
 
@@ -47,10 +42,3 @@ IsMade p w h sums i (Answer c value) = IsAnswer p w h sums i c value
 -- the state once the last share of an instance is counted, before anything is issued
 abbrev pub last_counted : State → Instance → ℕ → ℕ → State
 last_counted s i id p = record s { instances = after_share id p s.instances; circuits = answered_by i.signature s.circuits }
-
--- what the rules of issue issue in a state, with what is told of the circuits' outputs
-pub record IsPlanned (p : Params) (f : Fixed) (s : State) (outputs : List (Option Cipher)) (steps : List Step) : Type 0 where
-  pub moves : map move_of steps ≡ moves_in (most_moves f) f s.present s.instances s.circuits
-  pub ids : map id_told steps ≡ range_with_len (length s.instances + 1) (length steps)
-  pub polys : map polys_told steps ≡ map (polys_due outputs) steps
-  pub fresh : All (IsFresh p) steps

@@ -1,5 +1,6 @@
 -- What the rules of issue issue after a call, planned before anything is changed.
-use Rattle.std.specs.Prelude.{◌≡◌, ℕ, List, [], Option, ⊤}
+use Rattle.std.specs.Prelude.{◌≡◌, ℕ, ◌+◌, List, [], length, map, slice_set, All, Option, Some, None, ⊤}
+use Rattle.std.specs.List.{range_with_len}
 use Rattle.std.specs.declared.alloc.Global.{Global}
 use Rattle.std.specs.declared.sync.Arc.{Arc}
 use Rattle.ring_spec.specs.Pairs.{Cipher}
@@ -10,6 +11,9 @@ use Rattle.instance_table.specs.Tables.{no_sums}
 use Rattle.instance_table.specs.declared.brief.Brief.{Brief}
 use Rattle.session_rules.specs.declared.moves.Move.{Move}
 use Rattle.session_rules.specs.declared.moves.Move.TheVariants.{GiveUp, Issue}
+use Rattle.session_rules.specs.declared.fixed.Fixed.{Fixed}
+use Rattle.session_rules.specs.States.{State}
+use Rattle.session_rules.specs.Issues.{moves}
 use Rattle.session_spec.specs.Stores.{polys_by}
 use Rattle.session_state.specs.Parts.{store_by}
 use Rattle.session_state.specs.declared.issuing.Step.{Step}
@@ -43,6 +47,11 @@ polys_from outputs σ = polys_by (store_by [] [] [] outputs []) σ
 abbrev pub polys_due : List (Option Cipher) → Step → List (List ℕ)
 polys_due outputs step = polys_from outputs step.signature
 
+-- the outputs, where that of circuit c may be a new one
+abbrev pub with_made : List (Option Cipher) → ℕ → Option Cipher → List (Option Cipher)
+with_made outputs c None = outputs
+with_made outputs c (Some ct) = slice_set outputs c (Some ct)
+
 -- its brief has its signature, and no share is added to its sums
 pub record IsFresh (p : Params) (step : Step) : Type 0 where
   pub signature : step.brief.value.signature ≡ step.signature
@@ -59,3 +68,12 @@ IsIssue (Issue σ set round1) = ⊤
 abbrev pub Decrypts : Move → ℕ → Type 0
 Decrypts (GiveUp id by) c = ⊥
 Decrypts (Issue σ set round1) c = σ ≡ Dec c
+
+-- ---- a plan
+
+-- what the rules of issue issue in a state, with what is told of the circuits' outputs
+pub record IsPlanned (p : Params) (f : Fixed) (s : State) (outputs : List (Option Cipher)) (steps : List Step) : Type 0 where
+  pub moves : map move_of steps ≡ moves f s
+  pub ids : map id_told steps ≡ range_with_len (length s.instances + 1) (length steps)
+  pub polys : map polys_told steps ≡ map (polys_due outputs) steps
+  pub fresh : All (IsFresh p) steps

@@ -1,14 +1,13 @@
 -- What a standing stands for.
-use Rattle.std.specs.Prelude.{◌≡◌, ℕ, ◌+◌, ◌^◌, ◌≤◌, List, length}
-use Rattle.ring_spec.specs.Pairs.{Cipher}
-use Rattle.proto_names.specs.Instances.{instance}
-use Rattle.session_rules.specs.declared.reply.Reply.{Reply}
+use Rattle.std.specs.Prelude.{◌≡◌, ℕ, ◌+◌, ◌^◌, ◌≤◌, length}
+use Rattle.session_rules.specs.declared.deed.Verdict.{Verdict}
 use Rattle.session_rules.specs.declared.fixed.Fixed.{Fixed}
 use Rattle.session_rules.specs.States.{State, seen}
 use Rattle.session_rules.specs.Issues.{most_moves}
+use Rattle.session_rules.specs.Deeds.{done}
 use Rattle.session_rules.specs.Steps.{join, deliver, input, take, finish}
 use Rattle.session_spec.specs.Settings.{Setting, rules}
-use Rattle.session_spec.specs.Stores.{Store, grown, shared_by, given_by, finished_by}
+use Rattle.session_spec.specs.Stores.{Store, Brought, store_done}
 use Rattle.session_state.specs.Parts.{setting_by, store_by}
 use Rattle.session_state.specs.declared.standing.Standing.{Standing}
 
@@ -35,34 +34,26 @@ pub record IsUnchanged (old new : Standing) : Type 0 where
   pub state : state new ≡ state old
   pub store : store new ≡ store old
 
--- ---- what each call comes to: the reply, and the state then
+-- ---- what the rules say to each call
 
-abbrev pub joined : Standing → ℕ → Reply × State
-joined st p = join (rules_of st) (state st) p
+abbrev pub joined : Standing → ℕ → Verdict
+joined st p = join (state st) p
 
-abbrev pub delivered : Standing → ℕ → ℕ → ℕ → Reply × State
+abbrev pub delivered : Standing → ℕ → ℕ → ℕ → Verdict
 delivered st id p rows = deliver (rules_of st) (state st) id p rows
 
-abbrev pub inputted : Standing → ℕ → ℕ → Reply × State
+abbrev pub inputted : Standing → ℕ → ℕ → Verdict
 inputted st c k = input (rules_of st) (state st) c k
 
-abbrev pub taken : Standing → ℕ → Reply × State
+abbrev pub taken : Standing → ℕ → Verdict
 taken st who = take (rules_of st) (state st) who
 
-abbrev pub finished : Standing → ℕ → ℕ → Reply × State
-finished st who c = finish (rules_of st) (state st) who c
+abbrev pub finished : Standing → ℕ → ℕ → Verdict
+finished st who c = finish (state st) who c
 
--- ---- and the store then
+-- the state and the store once it is done, with what the call brought
+abbrev pub state_then : Standing → Verdict → State
+state_then st v = done (rules_of st) v.deed (state st)
 
-abbrev pub store_joined : Standing → ℕ → Store
-store_joined st p = grown (setting st) (joined st p).1.instances (store st)
-
-abbrev pub store_delivered : Standing → ℕ → ℕ → List (List ℕ) → Store
-store_delivered st id p rows =
-    shared_by (setting st) (instance st.table.instances.items id) rows (delivered st id p (length rows)) (store st)
-
-abbrev pub store_inputted : Standing → ℕ → ℕ → Cipher → Store
-store_inputted st c k ct = given_by c k ct (inputted st c k).0 (store st)
-
-abbrev pub store_finished : Standing → ℕ → ℕ → Cipher → Store
-store_finished st who c ct = finished_by (setting st) c ct (finished st who c) (store st)
+abbrev pub store_then : Standing → Verdict → Brought → Store
+store_then st v b = store_done (setting st) v.deed b (state_then st v).instances (store st)

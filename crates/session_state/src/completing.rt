@@ -9,11 +9,12 @@ ghost use Rattle.instance_table.specs.Spare.{spare};
 ghost use Rattle.session_rules.specs.declared.state.CircuitState.TheVariants.{Evaluated};
 ghost use Rattle.session_rules.specs.States.{circuit};
 ghost use Rattle.session_rules.specs.Issues.{most_moves, issue};
-ghost use Rattle.session_rules.specs.Steps.{answered_by};
+ghost use Rattle.session_rules.specs.Deeds.{answered_by};
 ghost use Rattle.session_rules.specs.Facts.{Kept};
 ghost use Rattle.session_rules.specs.Grounds.{Grounded};
 ghost use Rattle.session_spec.specs.Stores.{held_sums, held_output, cipher_or, with_rows, with_answer, grown};
-ghost use Rattle.session_state.specs.Completions.{IsOfOne, IsKey, IsAnswer, IsMade, IsPlanned, last_counted};
+ghost use Rattle.session_state.specs.Completions.{IsOfOne, IsKey, IsAnswer, IsMade, last_counted};
+ghost use Rattle.session_state.specs.Issuings.{IsPlanned};
 ghost use Rattle.session_state.specs.Standings.{setting, rules_of, state, store, HasRoom, IsUnchanged};
 ghost use Rattle.session_state.specs.Wanted.{IsWanted};
 
@@ -117,7 +118,7 @@ impl Standing {
     }
 
     /// How far the circuits have come once an instance of this signature is complete.
-    #[tactic(auto, unfolding(session_rules::specs::Steps::answered_by))]
+    #[tactic(auto, unfolding(session_rules::specs::Deeds::answered_by))]
     fn states_with(
         &self,
         alloc: Global,
@@ -199,7 +200,7 @@ impl Standing {
     }
 
     /// Makes room for so many instances; nothing else changes.
-    fn room(&mut self, instances: u32) -> Result<(), AllocError>
+    pub(crate) fn room(&mut self, instances: u32) -> Result<(), AllocError>
         ensures room { OnOk result (instances ≤ spare self.new.table) }
         ensures state { state self.new ≡ state self.old }
         ensures store { store self.new ≡ store self.old }
@@ -210,7 +211,7 @@ impl Standing {
     }
 
     /// Issues what was planned for its state.
-    fn issue_planned(&mut self, issuing: Issuing)
+    pub(crate) fn issue_planned(&mut self, issuing: Issuing)
         requires kept { Kept (rules_of self.old) (state self.old) }
         requires room { length issuing.steps.items ≤ spare self.old.table }
         requires few { length (state self.old).instances + length issuing.steps.items ≤ 2 ^ 30 }
@@ -251,6 +252,8 @@ impl Standing {
             instances,
             states,
             &self.outputs,
+            0,
+            None,
         )
     }
 

@@ -1,16 +1,16 @@
 //! What the rules of issue issue after a call: planned, with all memory that it takes, before anything is
 //! changed, and then carried out.
-ghost use Rattle.std.specs.Prelude.{◌≡◌, ◌≤◌, ℕ, ◌+◌, ◌^◌, false, ◌++◌, map, length, slice_index_or, All, IfOk, None};
+ghost use Rattle.std.specs.Prelude.{◌≡◌, ◌≤◌, ℕ, ◌+◌, ◌^◌, true, false, [], ◌++◌, map, length, slice_index_or, is_some, option_copied, All, IfOk, Some, None};
 ghost use Rattle.std.specs.List.{range_with_len, fold};
 ghost use Rattle.ring_spec.specs.Ring.{IsPoly};
 ghost use Rattle.proto_names.specs.declared.signature.Signature.TheVariants.{Rlk1, Dec};
 ghost use Rattle.instance_table.specs.Tables.{no_sums};
 ghost use Rattle.instance_table.specs.Spare.{spare};
 ghost use Rattle.session_rules.specs.declared.state.CircuitState.TheVariants.{Evaluated};
-ghost use Rattle.session_rules.specs.States.{circuit, has_done};
-ghost use Rattle.session_rules.specs.Issues.{keys, moves_in, most_moves, instances_after};
+ghost use Rattle.session_rules.specs.States.{seen, circuit, has_done};
+ghost use Rattle.session_rules.specs.Issues.{keys, most_moves, instances_after};
 ghost use Rattle.session_state.specs.Parts.{HasCipher, IsPk};
-ghost use Rattle.session_state.specs.Issuings.{move_of, id_told, polys_told, brief_of, sums_of, polys_from, polys_due, IsFresh, IsIssue, Decrypts};
+ghost use Rattle.session_state.specs.Issuings.{move_of, id_told, polys_told, brief_of, sums_of, polys_from, polys_due, with_made, IsFresh, IsIssue, Decrypts, IsPlanned};
 
 use crate::Places;
 use instance_table::{Brief, Instance, Table};
@@ -54,23 +54,44 @@ fn zero_sums(alloc: Global, ring: &Ring, signature: Signature) -> Result<Polys, 
     Ok(sums)
 }
 
+/// The output of a circuit, which is there, where that of circuit `at` is `made`, if something is made.
+fn output_of<'a>(
+    outputs: &'a Places<Ciphertext>,
+    at: u32,
+    made: Option<&'a Ciphertext>,
+    c: u32,
+) -> &'a Ciphertext
+    requires there { is_some (slice_index_or (with_made outputs.now at (option_copied made)) c None) ≡ true }
+    ensures { Some result.now ≡ slice_index_or (with_made outputs.now at (option_copied made.entry)) c None }
+{
+    if let Some(output) = made {
+        if at == c {
+            return output;
+        }
+    }
+    match outputs.get(c as usize) {
+        None => unreachable!(),
+        Some(output) => output,
+    }
+}
+
 /// What the parties of an instance are told: for a decryption the second part of the circuit's output.
 #[tactic(auto, unfolding(session_spec::specs::Stores::polys_by))]
 fn told(
     alloc: Global,
     ring: &Ring,
     outputs: &Places<Ciphertext>,
+    at: u32,
+    made: Option<&Ciphertext>,
     signature: Signature,
 ) -> Result<Polys, AllocError>
-    requires { (c : ℕ) → signature ≡ Dec c → HasCipher ring.now.params (slice_index_or outputs.now c None) }
-    ensures { IfOk result (λ polys. polys ≡ polys_from outputs.now signature) }
+    requires { (c : ℕ) → signature ≡ Dec c → HasCipher ring.now.params (slice_index_or (with_made outputs.now at (option_copied made)) c None) }
+    ensures { IfOk result (λ polys. polys ≡ polys_from (with_made outputs.now at (option_copied made.entry)) signature) }
 {
     let mut polys = Polys::new(alloc);
     if let Signature::Dec(c) = signature {
-        match outputs.get(c as usize) {
-            None => unreachable!(),
-            Some(output) => polys.push(copied(alloc, ring, &output.c1)?)?,
-        }
+        let output = output_of(outputs, at, made, c);
+        polys.push(copied(alloc, ring, &output.c1)?)?;
     }
     Ok(polys)
 }
@@ -81,24 +102,26 @@ fn planned(
     alloc: Global,
     ring: &Ring,
     outputs: &Places<Ciphertext>,
+    at: u32,
+    made: Option<&Ciphertext>,
     id: u32,
-    made: Move,
+    next: Move,
 ) -> Result<Step, AllocError>
-    requires issues { IsIssue made }
-    requires output { (c : ℕ) → Decrypts made c → HasCipher ring.now.params (slice_index_or outputs.now c None) }
-    ensures move_ { IfOk result (λ step. move_of step ≡ made) }
+    requires issues { IsIssue next }
+    requires output { (c : ℕ) → Decrypts next c → HasCipher ring.now.params (slice_index_or (with_made outputs.now at (option_copied made)) c None) }
+    ensures move_ { IfOk result (λ step. move_of step ≡ next) }
     ensures id { IfOk result (λ step. id_told step ≡ id) }
-    ensures polys { IfOk result (λ step. polys_told step ≡ polys_due outputs.now step) }
+    ensures polys { IfOk result (λ step. polys_told step ≡ polys_due (with_made outputs.now at (option_copied made.entry)) step) }
     ensures fresh { IfOk result (IsFresh ring.now.params) }
 {
-    match made {
+    match next {
         Move::GiveUp { .. } => unreachable!(),
         Move::Issue {
             signature,
             set,
             round1,
         } => {
-            let polys = told(alloc, ring, outputs, signature)?;
+            let polys = told(alloc, ring, outputs, at, made, signature)?;
             let brief = Brief {
                 id,
                 signature,
@@ -115,8 +138,9 @@ fn planned(
     }
 }
 
-/// The instances that the rules of issue issue behind others until neither applies, in their order; nothing
-/// is changed. It takes the memory of their briefs and sums.
+/// The instances that the rules of issue issue behind others until neither applies, in their order, where the
+/// output of circuit `at` is `made`, if something is made; nothing is changed. It takes the memory of their briefs
+/// and sums.
 pub(crate) fn plan(
     alloc: Global,
     ring: &Ring,
@@ -126,6 +150,8 @@ pub(crate) fn plan(
     instances: Vec<Instance>,
     states: &[CircuitState],
     outputs: &Places<Ciphertext>,
+    at: u32,
+    made: Option<&Ciphertext>,
 ) -> Result<Issuing, AllocError>
     requires keys { needed.now ≡ keys rules.now }
     requires only_keys { All IsPk needed.now }
@@ -134,59 +160,18 @@ pub(crate) fn plan(
     requires few { length states.now ≤ 64 }
     requires room { length instances.items + most_moves rules.now ≤ 2 ^ 30 }
     requires no_first_round { has_done Rlk1 instances.items ≡ false }
-    requires outputs { (c : ℕ) → circuit states.now c ≡ Evaluated → HasCipher ring.now.params (slice_index_or outputs.now c None) }
-    ensures moves { IfOk result (λ x. map move_of x.steps.items ≡ moves_in (most_moves rules.now) rules.now present.now.bits instances.items states.now) }
+    requires outputs { (c : ℕ) → circuit states.now c ≡ Evaluated → HasCipher ring.now.params (slice_index_or (with_made outputs.now at (option_copied made)) c None) }
+    ensures planned { IfOk result (λ x. IsPlanned ring.now.params rules.now (seen present.now.bits instances.items [] states.now) (with_made outputs.now at (option_copied made.entry)) x.steps.items) }
     ensures few { IfOk result (λ x. length x.steps.items ≤ most_moves rules.now) }
-    ensures ids { IfOk result (λ x. map id_told x.steps.items ≡ range_with_len (length instances.items + 1) (length x.steps.items)) }
-    ensures polys { IfOk result (λ x. map polys_told x.steps.items ≡ map (polys_due outputs.now) x.steps.items) }
-    ensures fresh { IfOk result (λ x. All (IsFresh ring.now.params) x.steps.items) }
 {
     let first = instances.len() as u32 + 1;
     let moves = planned_moves(alloc, rules, needed, present, instances, states)?;
     let mut steps = Vec::with_capacity(alloc, moves.len())?;
     'moves: for place in 0..moves.len() {
-        steps.push(planned(alloc, ring, outputs, first + place as u32, moves[place])?)?;
+        let id = first + place as u32;
+        steps.push(planned(alloc, ring, outputs, at, made, id, moves[place])?)?;
     }
     Ok(Issuing { steps })
-}
-
-/// Plans what is issued behind the instances of a table, and makes room for it; where memory is wanting none
-/// of them has changed.
-pub(crate) fn prepare(
-    alloc: Global,
-    table: &mut Table,
-    ring: &Ring,
-    rules: &Fixed,
-    needed: &[Signature],
-    present: &PartySet,
-    states: &[CircuitState],
-    outputs: &Places<Ciphertext>,
-) -> Result<Issuing, AllocError>
-    requires keys { needed.now ≡ keys rules.now }
-    requires only_keys { All IsPk needed.now }
-    requires few_keys { length needed.now ≤ 1 }
-    requires plans { length rules.now.plans ≡ length states.now }
-    requires few { length states.now ≤ 64 }
-    requires room { length table.old.instances.items + most_moves rules.now ≤ 2 ^ 30 }
-    requires no_first_round { has_done Rlk1 table.old.instances.items ≡ false }
-    requires outputs { (c : ℕ) → circuit states.now c ≡ Evaluated → HasCipher ring.now.params (slice_index_or outputs.now c None) }
-    ensures moves { IfOk result (λ x. map move_of x.steps.items ≡ moves_in (most_moves rules.now) rules.now present.now.bits table.old.instances.items states.now) }
-    ensures few { IfOk result (λ x. length x.steps.items ≤ most_moves rules.now) }
-    ensures ids { IfOk result (λ x. map id_told x.steps.items ≡ range_with_len (length table.old.instances.items + 1) (length x.steps.items)) }
-    ensures polys { IfOk result (λ x. map polys_told x.steps.items ≡ map (polys_due outputs.now) x.steps.items) }
-    ensures fresh { IfOk result (λ x. All (IsFresh ring.now.params) x.steps.items) }
-    ensures places { IfOk result (λ x. length x.steps.items ≤ spare table.new) }
-    ensures instances { table.new.instances.items ≡ table.old.instances.items }
-    ensures briefs { table.new.briefs.items ≡ table.old.briefs.items }
-    ensures sums { table.new.sums.items ≡ table.old.sums.items }
-    ensures ring { table.new.params ≡ table.old.params }
-{
-    let instances = table.instances_copied(alloc)?;
-    let issuing = plan(
-        alloc, ring, rules, needed, present, instances, states, outputs,
-    )?;
-    table.room(issuing.steps.len() as u32)?;
-    Ok(issuing)
 }
 
 /// Issues what was planned, behind the instances for which it was planned; there has to be room for it.

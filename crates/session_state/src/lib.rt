@@ -21,7 +21,6 @@ mod places;
 mod readers;
 mod sharing;
 mod standing;
-mod verdicts;
 mod working;
 
 pub use circuits::{Circuits, Offered};

@@ -1,9 +1,9 @@
 ghost use Rattle.std.specs.Prelude.{◌≡◌, ◌<◌, true, false, length, map, All, IfOk, IfSome, OnOk, OnErr, None};
 ghost use Rattle.session_rules.specs.declared.reply.Reply.TheVariants as reply;
-ghost use Rattle.session_spec.specs.Stores.{cipher_or};
+ghost use Rattle.session_spec.specs.Stores.{cipher_or, nothing_brought};
 ghost use Rattle.session_state.specs.Parts.{ciphers_in, IsThere};
-ghost use Rattle.session_state.specs.Standings.{setting, rules_of, state, store, taken, IsUnchanged};
-ghost use Rattle.session_rules.specs.Steps.{ready, next_ready};
+ghost use Rattle.session_state.specs.Standings.{setting, rules_of, state, store, taken, state_then, store_then, IsUnchanged};
+ghost use Rattle.session_rules.specs.Steps.{ready};
 ghost use Rattle.session_rules.specs.Facts.{Kept};
 ghost use Rattle.session_rules.specs.Grounds.{Grounded};
 ghost use Rattle.session_state.specs.Handed.{IsJobFor, CanEvaluate, is_list};
@@ -11,7 +11,7 @@ ghost use Rattle.session_state.specs.Handed.{IsJobFor, CanEvaluate, is_list};
 use crate::{Places, Standing, Taking};
 use circuit_runner::{Inputs, Job};
 use mod_ring::Ciphertext;
-use session_rules::{CircuitState, Reply, next_ready};
+use session_rules::{Deed, Verdict, judge_take};
 use std::alloc::{AllocError, Global};
 use std::sync::Arc;
 
@@ -30,15 +30,17 @@ fn gathered(alloc: Global, places: &Places<Arc<Ciphertext>>) -> Result<Inputs, A
 }
 
 impl Standing {
-    /// The least circuit that is ready.
-    fn next(&self) -> Option<u32>
-        ensures { result ≡ next_ready (rules_of self.now) (state self.now) }
+    /// What the rules say to a caller that asks for work.
+    fn verdict_on_take(&self, caller: u32) -> Verdict
+        ensures said { result ≡ taken self.now caller }
+        ensures plain { is_list result.reply ≡ false }
     {
-        next_ready(
+        judge_take(
             &self.rules,
             self.table.instances(),
             self.given.as_slice(),
             self.states.as_slice(),
+            caller,
         )
     }
 
@@ -65,29 +67,30 @@ impl Standing {
     pub fn take(&mut self, alloc: Global, caller: u32) -> Result<Taking, AllocError>
         requires kept { Kept (rules_of self.old) (state self.old) }
         requires grounded { Grounded (rules_of self.old) (state self.old) }
-        ensures reply { IfOk result (λ t. t.reply ≡ (taken self.old caller).0) }
+        ensures reply { IfOk result (λ t. t.reply ≡ (taken self.old caller).reply) }
         ensures plain { IfOk result (λ t. is_list t.reply ≡ false) }
-        ensures state { OnOk result (state self.new ≡ (taken self.old caller).1) }
-        ensures store { OnOk result (store self.new ≡ store self.old) }
-        ensures job { IfOk result (λ t. IfSome t.job (λ j. (taken self.old caller).0 ≡ reply.Job j.number)) }
-        ensures there { IfOk result (λ t. t.job ≡ None → (taken self.old caller).0 ≡ reply.Nothing) }
+        ensures state { OnOk result (state self.new ≡ state_then self.old (taken self.old caller)) }
+        ensures store { OnOk result (store self.new ≡ store_then self.old (taken self.old caller) nothing_brought) }
+        ensures job { IfOk result (λ t. IfSome t.job (λ j. (taken self.old caller).reply ≡ reply.Job j.number)) }
+        ensures there { IfOk result (λ t. t.job ≡ None → (taken self.old caller).reply ≡ reply.Nothing) }
         ensures circuit { IfOk result (λ t. IfSome t.job (λ j. IsJobFor (setting self.old) (store self.old) j.number j)) }
         ensures ready { IfOk result (λ t. IfSome t.job (λ j. CanEvaluate self.old.params j)) }
         ensures setting { setting self.new ≡ setting self.old }
         ensures params { self.new.params ≡ self.old.params }
         ensures unchanged { OnErr result (IsUnchanged self.old self.new) }
-        ensures free { OnErr result ((taken self.old caller).0 ≡ reply.Nothing → ⊥) }
+        ensures free { OnErr result ((taken self.old caller).reply ≡ reply.Nothing → ⊥) }
     {
-        let Some(number) = self.next() else {
+        let verdict = self.verdict_on_take(caller);
+        let Deed::Turns { circuit, to } = verdict.deed else {
             return Ok(Taking {
-                reply: Reply::Nothing,
+                reply: verdict.reply,
                 job: None,
             });
         };
-        let job = self.job(alloc, number)?;
-        self.states[number as usize] = CircuitState::Taken { caller };
+        let job = self.job(alloc, circuit)?;
+        self.states[circuit as usize] = to;
         Ok(Taking {
-            reply: Reply::Job { circuit: number },
+            reply: verdict.reply,
             job: Some(job),
         })
     }

@@ -22,6 +22,7 @@ use Rattle.proto_names.specs.declared.signature.Signature.TheVariants.{Dec, Pk}
 use Rattle.proto_names.specs.declared.instance.Instance.{Instance}
 use Rattle.proto_names.specs.declared.instance.Stage.TheVariants.{Opened, Complete}
 use Rattle.session_rules.specs.declared.reply.Reply.TheVariants as reply
+use Rattle.session_rules.specs.declared.deed.Deed.TheVariants.{Joins, Counts, Gives, Turns}
 use Rattle.session_rules.specs.declared.state.CircuitState.TheVariants.{Idle, Taken, Evaluated, Answered}
 use Rattle.session_rules.specs.States.{State, seen, plan, is_admitted, is_given, has_done}
 use Rattle.session_rules.specs.Steps.{finish, is_input, input}
@@ -30,8 +31,8 @@ use Rattle.session_rules.proofs.Contained.{contains_nil, contains_cases}
 use Rattle.session_spec.specs.Settings.{Setting, plain_at, rules, IsSetting, HasValues}
 use Rattle.session_spec.specs.Shares.{dec_share, share_rows, sum_row, sum_rows, key_of}
 use Rattle.session_spec.specs.Outputs.{no_key, key_in, input_of, output_of, polys_of, share_of, sums_of}
-use Rattle.session_spec.specs.Stores.{Store, cipher_or}
-use Rattle.session_spec.specs.Honesty.{IsHonest, BringsShare, BringsOutput, BringsInput}
+use Rattle.session_spec.specs.Stores.{Store, cipher_or, share_brought, cipher_brought, nothing_brought}
+use Rattle.session_spec.specs.Honesty.{IsHonest, BringsShare, BringsOutput, BringsInput, Brings}
 use Rattle.session_spec.specs.Laws.{Serves, Matches}
 use Rattle.spec_rows.proofs.Tables.{issued}
 use Rattle.session_rules.specs.Fixing.{begins_as, plan_of, fixed_from}
@@ -220,6 +221,28 @@ brings_no_cipher seeds b = let lengths : 0 ≡ 2 = ap (λ (c : Cipher). length c
 pub owner_is_absent : (seeds : List (List ℕ)) → BringsInput w seeds (keyed 5) 1 0 (record { c0 = []; c1 = [] })
 unfolding rules fixed_from plan_of begins_as owners first_over first_above place_bound output_bound node_bounds bounds_from node_bound input_bound sum_bound count_leading_zeros input is_input has_done is_done same has
 owner_is_absent seeds e = let said : reply.Absent ≡ reply.Given = e in cc
+
+-- ---- what is brought to a deed
+
+-- a decryption's share by party 2, the circuit's output, and nothing else
+pub brings_deeds : (seeds : List (List ℕ)) → Brings v seeds evaluated (Counts decryption 2) (share_brought (dec_share v seeds 1 3 (0 ∷ 0 ∷ []) 2 ∷ []))
+    × Brings v seeds taken (Turns 0 Evaluated) (cipher_brought output) × Brings v seeds taken (Turns 0 Idle) nothing_brought × Brings v seeds evaluated (Joins 3) nothing_brought
+brings_deeds seeds = (sym (share_so seeds (key_in v seeds (decryption ∷ []))), sym (output_so seeds (key_in v seeds [])), tt, tt)
+
+pub brings_input_deed : (seeds : List (List ℕ)) → Brings w seeds (keyed 7) (Gives 1 0) (cipher_brought (input_of w seeds (key_in w seeds (issued 1 Pk 3 1 3 Complete 0 ∷ [])) 1 0))
+brings_input_deed seeds = refl
+
+-- an output of other coefficients, and a share and an input that aren't there
+pub deed_of_other_output : (seeds : List (List ℕ)) → Brings v seeds taken (Turns 0 Evaluated) (cipher_brought (record output { c0 = 755 ∷ 504 ∷ [] })) → ⊥
+deed_of_other_output seeds b =
+    let entry : 755 ≡ 756 = ap (λ (c : Cipher). get_or c.c0 0 0) (b ∙ output_so seeds (key_in v seeds [])) in absurd (omega (arith, entry))
+
+pub deed_of_no_share : (seeds : List (List ℕ)) → Brings v seeds evaluated (Counts decryption 2) nothing_brought → ⊥
+deed_of_no_share seeds b = let lengths : 0 ≡ 1 = ap length (b ∙ share_so seeds (key_in v seeds (decryption ∷ []))) in absurd (omega (arith, lengths))
+
+pub deed_of_no_cipher : (seeds : List (List ℕ)) → Brings w seeds (keyed 7) (Gives 1 0) nothing_brought → ⊥
+unfolding input_of drawn_encryption encryption ring_sum residues
+deed_of_no_cipher seeds b = let lengths : 0 ≡ 2 = ap (λ (c : Cipher). length c.c0) b in absurd (omega (arith, lengths))
 
 -- ---- keys that serve
 

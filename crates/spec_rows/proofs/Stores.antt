@@ -14,16 +14,17 @@ use Rattle.circuit_form.specs.Circuits.{owners}
 use Rattle.circuit_form.specs.Values.{given_after}
 use Rattle.cipher_spec.specs.Ciphers.{node_cipher, ciphers_from, output_cipher}
 use Rattle.proto_names.specs.Names.{same, rows_of}
-use Rattle.proto_names.specs.Instances.{is_done}
+use Rattle.proto_names.specs.Groups.{with_party, is_outside, number_outside}
+use Rattle.proto_names.specs.Instances.{is_done, missing}
 use Rattle.proto_names.specs.declared.signature.Signature.TheVariants.{Pk, Rlk1, Rlk2, Rot, Dec}
 use Rattle.proto_names.specs.declared.instance.Instance.{Instance}
 use Rattle.proto_names.specs.declared.instance.Stage.TheVariants.{Opened, Complete, Void}
 use Rattle.instance_table.specs.Tables.{row_sum, rows_sum, after_rows}
-use Rattle.session_rules.specs.declared.reply.Reply.TheVariants as reply
-use Rattle.session_rules.specs.States.{seen}
+use Rattle.session_rules.specs.declared.deed.Deed.TheVariants.{Nothing, Joins, Loses, Counts, Gives, Turns}
+use Rattle.session_rules.specs.declared.state.CircuitState.TheVariants.{Idle, Taken, Evaluated}
 use Rattle.session_spec.specs.Shares.{key_share, dec_share, share_rows, sum_row, sum_rows, key_of}
 use Rattle.session_spec.specs.Outputs.{key_instance, no_key, key_in, input_of, inputs_of, output_of, polys_of, share_of, sums_of}
-use Rattle.session_spec.specs.Stores.{Store, held_polys, held_sums, held_input, held_output, held_answer, held_key, empty, polys_by, grown, with_rows, opened, with_answer, after_share, with_input, with_output, shared_by, given_by, finished_by}
+use Rattle.session_spec.specs.Stores.{Store, held_polys, held_sums, held_input, held_output, held_answer, held_key, empty, polys_by, grown, with_rows, opened, with_answer, with_input, with_output, share_brought, cipher_brought, nothing_brought, with_turn, with_share, with_deed, store_done}
 use Rattle.spec_rows.proofs.Tables.{issued}
 use Rattle.spec_rows.proofs.Settings.{w}
 
@@ -133,41 +134,68 @@ pub grows : grown w (two ++ issued 3 (Dec 0) 5 2 0 Opened 0 ∷ issued 4 Rlk1 5 
 unfolding grown polys_by rows_of count_leading_zeros
 grows = refl
 
--- a share that is counted is added to the sums of its instance
-pub counted : after_share w (issued 2 (Dec 0) 3 1 0 Opened 0) ((2 ∷ 10 ∷ []) ∷ []) two (reply.Counted 1) some ≡ record some { sums = ((3 ∷ 4 ∷ []) ∷ []) ∷ ((3 ∷ 1 ∷ []) ∷ []) ∷ [] }
-unfolding after_share with_rows after_rows rows_sum row_sum ring_sum residues residue
+-- ---- deeds
+
+-- a decryption of circuit 0 to which these parties sent
+abbrev decrypting : ℕ → Instance
+decrypting sent = issued 2 (Dec 0) 3 1 sent Opened 0
+
+-- a share that isn't the last one is added to the sums of its instance
+pub counted : store_done w (Counts (decrypting 0) 1) (share_brought ((2 ∷ 10 ∷ []) ∷ [])) two some ≡ record some { sums = ((3 ∷ 4 ∷ []) ∷ []) ∷ ((3 ∷ 1 ∷ []) ∷ []) ∷ [] }
+unfolding store_done with_deed with_share missing with_party number_outside is_outside has with_rows after_rows rows_sum row_sum ring_sum residues residue
 counted = refl
 
 -- the last one answers its circuit: 756 + 3 and 504 + 1 are decrypted to 3 and 2; and
 -- what is issued then begins with sums of zero
-pub completed : after_share w (issued 2 (Dec 0) 3 1 1 Opened 0) ((2 ∷ 10 ∷ []) ∷ []) (two ++ issued 3 Rlk2 5 1 0 Opened 1 ∷ []) reply.Completed some
+pub completed : store_done w (Counts (decrypting 1) 2) (share_brought ((2 ∷ 10 ∷ []) ∷ [])) (two ++ issued 3 Rlk2 5 1 0 Opened 1 ∷ []) some
     ≡ record some {
       told = [] ∷ ((6 ∷ 7 ∷ []) ∷ []) ∷ [] ∷ [];
       sums = ((3 ∷ 4 ∷ []) ∷ []) ∷ ((3 ∷ 1 ∷ []) ∷ []) ∷ ((0 ∷ 0 ∷ []) ∷ (0 ∷ 0 ∷ []) ∷ (0 ∷ 0 ∷ []) ∷ (0 ∷ 0 ∷ []) ∷ []) ∷ [];
       answers = Some (3 ∷ 2 ∷ []) ∷ None ∷ [];
     }
-unfolding after_share with_answer opened decryption grown polys_by rows_of count_leading_zeros with_rows after_rows rows_sum row_sum ring_sum residues residue
+unfolding store_done with_deed with_share missing with_party number_outside is_outside has with_answer opened decryption grown polys_by rows_of count_leading_zeros with_rows after_rows rows_sum row_sum ring_sum residues residue
 completed = refl
 
--- and one that is refused changes nothing, nor does one for no instance
-pub refused : (after_share w (issued 2 (Dec 0) 3 1 1 Opened 0) ((2 ∷ 10 ∷ []) ∷ []) two reply.Repeat some ≡ some) × (shared_by w None ((2 ∷ 10 ∷ []) ∷ []) (reply.Completed, seen 7 two [] []) some ≡ some)
-unfolding after_share shared_by
+-- the last one of a key answers no circuit
+pub key_completed : store_done w (Counts (issued 1 Pk 3 1 1 Opened 0) 2) (share_brought ((2 ∷ 10 ∷ []) ∷ [])) two some ≡ record some { sums = ((5 ∷ 14 ∷ []) ∷ []) ∷ ((1 ∷ 1000 ∷ []) ∷ []) ∷ [] }
+unfolding store_done with_deed with_share missing with_party number_outside is_outside has with_answer grown polys_by rows_of with_rows after_rows rows_sum row_sum ring_sum residues residue
+key_completed = refl
+
+-- where nothing is done nothing changes, whatever is brought and whatever is issued
+pub refused : (store_done w Nothing (share_brought ((2 ∷ 10 ∷ []) ∷ [])) two some ≡ some) × (store_done w Nothing (cipher_brought output) (two ++ issued 3 Pk 5 2 0 Opened 0 ∷ []) some ≡ some)
+unfolding store_done with_deed
 refused = (refl, refl)
 
-pub gives : (given_by 1 1 output reply.Given some ≡ record some { inputs = [] ∷ (None ∷ Some output ∷ []) ∷ [] }) × (given_by 1 1 output reply.Repeat some ≡ some)
-unfolding given_by with_input
-gives = (refl, refl)
+-- what is issued when a party joins or is lost begins with sums of zero
+abbrev with_key : Store
+with_key = record some {
+  told = [] ∷ ((6 ∷ 7 ∷ []) ∷ []) ∷ [] ∷ [];
+  sums = ((3 ∷ 4 ∷ []) ∷ []) ∷ ((1 ∷ 1000 ∷ []) ∷ []) ∷ ((0 ∷ 0 ∷ []) ∷ []) ∷ [];
+}
+
+pub joined : (store_done w (Joins 1) nothing_brought (two ++ issued 3 Pk 5 2 0 Opened 0 ∷ []) some ≡ with_key) × (store_done w (Joins 1) nothing_brought two some ≡ some)
+unfolding store_done with_deed grown polys_by rows_of
+joined = (refl, refl)
+
+pub lost : store_done w (Loses 2) nothing_brought (two ++ issued 3 Pk 5 2 0 Opened 0 ∷ []) some ≡ with_key
+unfolding store_done with_deed grown polys_by rows_of
+lost = refl
+
+pub gives : store_done w (Gives 1 1) (cipher_brought output) two some ≡ record some { inputs = [] ∷ (None ∷ Some output ∷ []) ∷ [] }
+unfolding store_done with_deed with_input
+gives = refl
 
 -- with an output the decryption of its circuit may be issued, and is told its second part
-pub finishes : finished_by w 1 output (reply.Finished, seen 7 (two ++ issued 3 (Dec 1) 3 1 0 Opened 0 ∷ []) [] []) some
+pub finishes : store_done w (Turns 1 Evaluated) (cipher_brought output) (two ++ issued 3 (Dec 1) 3 1 0 Opened 0 ∷ []) some
     ≡ record some {
       told = [] ∷ ((6 ∷ 7 ∷ []) ∷ []) ∷ ((6 ∷ 7 ∷ []) ∷ []) ∷ [];
       sums = ((3 ∷ 4 ∷ []) ∷ []) ∷ ((1 ∷ 1000 ∷ []) ∷ []) ∷ ((0 ∷ 0 ∷ []) ∷ []) ∷ [];
       outputs = Some output ∷ Some output ∷ [];
     }
-unfolding finished_by with_output grown polys_by rows_of
+unfolding store_done with_deed with_turn with_output grown polys_by rows_of
 finishes = refl
 
-pub not_taken : finished_by w 1 output (reply.NotTaken, seen 7 two [] []) some ≡ some
-unfolding finished_by
-not_taken = refl
+-- a circuit that is taken or given back has no output, whatever is brought
+pub not_finished : (store_done w (Turns 1 (Taken 4)) nothing_brought two some ≡ some) × (store_done w (Turns 1 Idle) (cipher_brought output) two some ≡ some)
+unfolding store_done with_deed with_turn
+not_finished = (refl, refl)

@@ -1,5 +1,4 @@
-use Rattle.session_laws.proofs.Joins.{opening_is_honest}
-use Rattle.session_laws.proofs.Beginnings.{opening_stands}
+use Rattle.session_laws.proofs.Beginnings.{opening_is_honest, opening_stands}
 use Rattle.session_laws.proofs.laws.beginnings.Goals as goal
 
 pub returns-clause-honest : goal.returns-clause-honest

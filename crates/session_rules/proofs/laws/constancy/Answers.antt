@@ -1,5 +1,6 @@
 use Rattle.session_rules.proofs.Keeps.{calls_leave, histories_leave}
 use Rattle.session_rules.proofs.Presence.{taken_stays}
+use Rattle.session_rules.proofs.Grounds.{refused_ones_began_so}
 use Rattle.session_rules.proofs.Deliveries.{keys_stay, first_rounds_stay}
 use Rattle.session_rules.proofs.laws.constancy.Goals as goal
 
@@ -17,3 +18,6 @@ returns-clause-first_rounds c = first_rounds_stay
 
 pub returns-clause-taken : goal.returns-clause-taken
 returns-clause-taken c = taken_stays
+
+pub returns-clause-refused : goal.returns-clause-refused
+returns-clause-refused c = refused_ones_began_so

@@ -1,4 +1,5 @@
-use Rattle.session_rules.proofs.Runs.{few_are_issued, histories_issue_few, legal_ones_grow, next_state, beginnings_are_legal, states_lead_on, later_ones_follow, taken_stays_on}
+use Rattle.session_rules.proofs.Presence.{few_are_issued, histories_issue_few}
+use Rattle.session_rules.proofs.Runs.{legal_ones_grow, next_state, beginnings_are_legal, states_lead_on, later_ones_follow, taken_stays_on}
 use Rattle.session_rules.proofs.laws.histories.Goals as goal
 
 pub returns-clause-grow : goal.returns-clause-grow

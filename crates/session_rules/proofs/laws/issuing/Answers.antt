@@ -1,6 +1,5 @@
 use Rattle.session_rules.proofs.Rest.{calls_leave_rest, histories_leave_rest}
-use Rattle.session_rules.proofs.Weights.{issue_ends}
-use Rattle.session_rules.proofs.Deliveries.{issue_is_its_moves, moves_are_few}
+use Rattle.session_rules.proofs.Weights.{issue_ends, issue_is_its_moves, moves_are_few}
 use Rattle.session_rules.proofs.laws.issuing.Goals as goal
 
 pub returns-clause-ends : goal.returns-clause-ends

@@ -2,33 +2,39 @@
 use Rattle.std.proofs.Common.{◌∙◌, ap, ℕ, List, [], ◌∷◌, ◌++◌}
 use Rattle.session_rules.specs.declared.call.Call.TheVariants as call
 use Rattle.session_rules.specs.declared.call.Entry.{Entry}
-use Rattle.session_rules.specs.Steps.{step}
+use Rattle.session_rules.specs.Steps.{judge, step}
 use Rattle.session_rules.specs.Tasks.{entry}
-use Rattle.session_core.proofs.Brought.{shared_honest}
+use Rattle.session_spec.specs.Stores.{share_brought}
+use Rattle.session_laws.proofs.Calls.{shares_are_brought}
+use Rattle.session_state.specs.Standings.{setting, state}
 use Rattle.session_core.specs.Sessions.{BringsShareTo}
 use Rattle.session_core.specs.Calls.{known, brings}
-use Rattle.session_state.specs.Standings.{setting, state, store, store_delivered}
-use Rattle.session_core.proofs.Going.{goes_on, made, reply_is}
+use Rattle.session_core.proofs.Grown.{kept}
+use Rattle.session_core.proofs.Going.{goes_on, made, store_made, reply_is}
 use Rattle.session_core.proofs.session.Session.deliver.Goals as goal
 
 pub invariant_of-self-2 : goal.invariant_of-self-2
-unfolding step
+unfolding judge step
 invariant_of-self-2 g c =
-    let s = c.begin.new.self in let st = s.standing in let ok = c.in_ok-reply.ensures in
-    let brought : BringsShareTo (known s) (state st) c.args.share.now = rw (c.begin.ensures.waits.roll, c.begin.ensures.waits.most, c.begin.ensures.waits.standing) c.requires.share in
-    let x = goes_on c.args.self.now s c.deliver.new.self c.push_reserved.new.self.items c.args.caller (brings c.args.share.now) c.plain_copy.result (store_delivered st c.args.share.now.id c.args.share.now.party c.args.share.now.rows) c.begin.ensures.waits c.in_ok-begin.ensures.more tt
-    (record { setting = ok.setting; params = ok.params; reply = c.plain_copy.ensures ∙ ok.reply; state = ok.state; store = ok.store })
-    (λ t y. shared_honest st.params (setting st) _ (state st) (store st) c.args.share.now.id c.args.share.now.party c.args.share.now.rows y brought.fits (brought.honest t))
+    let s = c.begin.new.self in let st = s.standing in let ok = c.in_ok-reply.ensures in let b = c.begin.ensures in
+    let brought : BringsShareTo (known s) (state st) c.args.share.now = rw (b.waits.roll, b.waits.most, b.waits.standing) c.requires.share in
+    let x = goes_on c.args.self.now s c.deliver.new.self c.push_reserved.new.self.items c.args.caller (brings c.args.share.now) _ c.plain_copy.result (share_brought c.args.share.now.rows) c.plain_copy.ensures b.waits c.in_ok-begin.ensures.more tt
+    (record { setting = ok.setting; params = ok.params; reply = ok.reply; state = ok.state; store = ok.store })
+    (λ t. shares_are_brought (setting st) _ (state st) c.args.share.now.id c.args.share.now.party c.args.share.now.rows (kept st s.log.items s.state_is) (brought.honest t))
     (◌∙◌ {A = List Entry} c.push_reserved.ensures.items (ap (λ (n : ℕ). s.log.items ++ entry c.args.caller (call.Deliver c.args.share.now.id c.args.share.now.party n) c.plain_copy.result ∷ []) c.len.ensures)) in
     record { public_is = x.public_is; legal = x.legal; state_is = x.state_is; sound = x.sound }
 
 pub returns-clause-made : goal.returns-clause-made
-unfolding step
+unfolding judge step
 returns-clause-made g c =
     let s = c.begin.new.self in let st = s.standing in let ok = c.in_ok-reply.ensures in let b = c.begin.ensures in let push = c.push_reserved.ensures in
-    made c.args.self.now s _ c.args.caller (brings c.args.share.now) _ _ (store_delivered st c.args.share.now.id c.args.share.now.party c.args.share.now.rows) c.plain_copy.ensures b.waits b.doubles c.in_ok-begin.ensures.room
+    made c.args.self.now s _ c.args.caller (brings c.args.share.now) _ _ (share_brought c.args.share.now.rows) c.plain_copy.ensures b.waits b.doubles c.in_ok-begin.ensures.room
     (record { setting = ok.setting; params = ok.params; reply = ok.reply; state = ok.state; store = ok.store }) (◌∙◌ {A = List Entry} push.items (ap (λ (n : ℕ). s.log.items ++ entry c.args.caller (call.Deliver c.args.share.now.id c.args.share.now.party n) c.plain_copy.result ∷ []) c.len.ensures)) push.len push.capacity
 
+pub returns-clause-store : goal.returns-clause-store
+unfolding judge step
+returns-clause-store g c = store_made c.args.self.now c.begin.new.self c.args.caller (brings c.args.share.now) (share_brought c.args.share.now.rows) _ c.begin.ensures.waits c.in_ok-reply.ensures.store
+
 pub returns-in_err-reply-clause-free : goal.returns-in_err-reply-clause-free
-unfolding step
+unfolding judge step
 returns-in_err-reply-clause-free g c _ _ = reply_is c.args.self.now c.begin.new.self c.args.caller (brings c.args.share.now) c.begin.ensures.waits ∙ c.in_err-reply.ensures.free

@@ -1,32 +1,37 @@
 -- The history goes on by the call, and the polynomials stay honest.
 use Rattle.std.proofs.Common.{◌∙◌}
 use Rattle.session_rules.specs.declared.call.Call.TheVariants as call
-use Rattle.session_rules.specs.Steps.{step}
-use Rattle.session_core.proofs.Brought.{given_honest}
+use Rattle.session_rules.specs.Steps.{judge, step}
+use Rattle.session_spec.specs.Stores.{cipher_brought}
+use Rattle.session_laws.proofs.Calls.{inputs_are_brought}
+use Rattle.session_state.specs.Standings.{setting, state}
 use Rattle.session_core.specs.Sessions.{BringsInputTo}
 use Rattle.session_core.specs.Calls.{known}
-use Rattle.session_state.specs.Standings.{setting, state, store, store_inputted}
-use Rattle.session_core.proofs.Going.{goes_on, made, reply_is}
+use Rattle.session_core.proofs.Going.{goes_on, made, store_made, reply_is}
 use Rattle.session_core.proofs.session.Session.input.Goals as goal
 
 pub invariant_of-self-2 : goal.invariant_of-self-2
-unfolding step
+unfolding judge step
 invariant_of-self-2 g c =
-    let s = c.begin.new.self in let st = s.standing in let ok = c.in_ok-reply.ensures in
-    let brought : BringsInputTo (known s) (state st) c.args.circuit c.args.input c.args.ct = rw (c.begin.ensures.waits.roll, c.begin.ensures.waits.most, c.begin.ensures.waits.standing) c.requires.ct in
-    let x = goes_on c.args.self.now s c.input.new.self c.push_reserved.new.self.items c.args.caller (call.Input c.args.circuit c.args.input) c.plain_copy.result (store_inputted st c.args.circuit c.args.input c.args.ct) c.begin.ensures.waits c.in_ok-begin.ensures.more tt
-    (record { setting = ok.setting; params = ok.params; reply = c.plain_copy.ensures ∙ ok.reply; state = ok.state; store = ok.store })
-    (λ t y. given_honest st.params (setting st) _ (state st) (store st) c.args.circuit c.args.input c.args.ct y (brought.honest t))
+    let s = c.begin.new.self in let st = s.standing in let ok = c.in_ok-reply.ensures in let b = c.begin.ensures in
+    let brought : BringsInputTo (known s) (state st) c.args.circuit c.args.input c.args.ct = rw (b.waits.roll, b.waits.most, b.waits.standing) c.requires.ct in
+    let x = goes_on c.args.self.now s c.input.new.self c.push_reserved.new.self.items c.args.caller (call.Input c.args.circuit c.args.input) _ c.plain_copy.result (cipher_brought c.args.ct) c.plain_copy.ensures b.waits c.in_ok-begin.ensures.more tt
+    (record { setting = ok.setting; params = ok.params; reply = ok.reply; state = ok.state; store = ok.store })
+    (λ t. inputs_are_brought (setting st) _ (state st) c.args.circuit c.args.input c.args.ct (brought.honest t))
     c.push_reserved.ensures.items in
     record { public_is = x.public_is; legal = x.legal; state_is = x.state_is; sound = x.sound }
 
 pub returns-clause-made : goal.returns-clause-made
-unfolding step
+unfolding judge step
 returns-clause-made g c =
     let s = c.begin.new.self in let st = s.standing in let ok = c.in_ok-reply.ensures in let b = c.begin.ensures in let push = c.push_reserved.ensures in
-    made c.args.self.now s _ c.args.caller (call.Input c.args.circuit c.args.input) _ _ (store_inputted st c.args.circuit c.args.input c.args.ct) c.plain_copy.ensures b.waits b.doubles c.in_ok-begin.ensures.room
+    made c.args.self.now s _ c.args.caller (call.Input c.args.circuit c.args.input) _ _ (cipher_brought c.args.ct) c.plain_copy.ensures b.waits b.doubles c.in_ok-begin.ensures.room
     (record { setting = ok.setting; params = ok.params; reply = ok.reply; state = ok.state; store = ok.store }) (push.items) push.len push.capacity
 
+pub returns-clause-store : goal.returns-clause-store
+unfolding judge step
+returns-clause-store g c = store_made c.args.self.now c.begin.new.self c.args.caller (call.Input c.args.circuit c.args.input) (cipher_brought c.args.ct) _ c.begin.ensures.waits c.in_ok-reply.ensures.store
+
 pub returns-in_err-reply-clause-free : goal.returns-in_err-reply-clause-free
-unfolding step
+unfolding judge step
 returns-in_err-reply-clause-free g c _ _ = reply_is c.args.self.now c.begin.new.self c.args.caller (call.Input c.args.circuit c.args.input) c.begin.ensures.waits ∙ c.in_err-reply.ensures.free

@@ -1,31 +1,36 @@
 -- The history goes on by the call, and the polynomials stay honest.
 use Rattle.std.proofs.Common.{◌∙◌}
 use Rattle.session_rules.specs.declared.call.Call.TheVariants as call
-use Rattle.session_rules.specs.Steps.{step}
-use Rattle.session_laws.proofs.Joins.{joins_keep_honest}
-use Rattle.session_state.specs.Standings.{setting, state, store, store_joined}
+use Rattle.session_rules.specs.Steps.{judge, step}
+use Rattle.session_spec.specs.Stores.{nothing_brought}
+use Rattle.session_state.specs.Standings.{setting, state}
 use Rattle.session_core.specs.Sessions.{IsParty}
-use Rattle.session_core.proofs.Going.{goes_on, made, reply_is}
+use Rattle.session_core.proofs.Brought.{join_brings}
+use Rattle.session_core.proofs.Going.{goes_on, made, store_made, reply_is}
 use Rattle.session_core.proofs.session.Session.join.Goals as goal
 
 pub invariant_of-self-2 : goal.invariant_of-self-2
-unfolding step
+unfolding judge step
 invariant_of-self-2 g c =
-    let s = c.begin.new.self in let st = s.standing in let ok = c.in_ok-reply.ensures in
-    let party : IsParty st.params.parties c.args.p = rw c.begin.ensures.waits.standing c.requires.party in
-    let x = goes_on c.args.self.now s c.join.new.self c.push_reserved.new.self.items c.args.caller (call.Join c.args.p) c.plain_copy.result (store_joined st c.args.p) c.begin.ensures.waits c.in_ok-begin.ensures.more party
-    (record { setting = ok.setting; params = ok.params; reply = c.plain_copy.ensures ∙ ok.reply; state = ok.state; store = ok.store })
-    (λ t y. joins_keep_honest st.params (setting st) _ (state st) (store st) c.args.p y)
+    let s = c.begin.new.self in let st = s.standing in let ok = c.in_ok-reply.ensures in let b = c.begin.ensures in
+    let party : IsParty st.params.parties c.args.p = rw b.waits.standing c.requires.party in
+    let x = goes_on c.args.self.now s c.join.new.self c.push_reserved.new.self.items c.args.caller (call.Join c.args.p) _ c.plain_copy.result nothing_brought c.plain_copy.ensures b.waits c.in_ok-begin.ensures.more party
+    (record { setting = ok.setting; params = ok.params; reply = ok.reply; state = ok.state; store = ok.store })
+    (λ t. join_brings (setting st) _ (state st) c.args.p nothing_brought)
     c.push_reserved.ensures.items in
     record { public_is = x.public_is; legal = x.legal; state_is = x.state_is; sound = x.sound }
 
 pub returns-clause-made : goal.returns-clause-made
-unfolding step
+unfolding judge step
 returns-clause-made g c =
     let s = c.begin.new.self in let st = s.standing in let ok = c.in_ok-reply.ensures in let b = c.begin.ensures in let push = c.push_reserved.ensures in
-    made c.args.self.now s _ c.args.caller (call.Join c.args.p) _ _ (store_joined st c.args.p) c.plain_copy.ensures b.waits b.doubles c.in_ok-begin.ensures.room
+    made c.args.self.now s _ c.args.caller (call.Join c.args.p) _ _ nothing_brought c.plain_copy.ensures b.waits b.doubles c.in_ok-begin.ensures.room
     (record { setting = ok.setting; params = ok.params; reply = ok.reply; state = ok.state; store = ok.store }) (push.items) push.len push.capacity
 
+pub returns-clause-store : goal.returns-clause-store
+unfolding judge step
+returns-clause-store g c = store_made c.args.self.now c.begin.new.self c.args.caller (call.Join c.args.p) nothing_brought _ c.begin.ensures.waits c.in_ok-reply.ensures.store
+
 pub returns-in_err-reply-clause-free : goal.returns-in_err-reply-clause-free
-unfolding step
+unfolding judge step
 returns-in_err-reply-clause-free g c _ _ = reply_is c.args.self.now c.begin.new.self c.args.caller (call.Join c.args.p) c.begin.ensures.waits ∙ c.in_err-reply.ensures.free

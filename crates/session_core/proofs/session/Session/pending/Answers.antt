@@ -1,7 +1,9 @@
 -- The history goes on by the call, and the polynomials stay honest.
 use Rattle.std.proofs.Common.{◌∙◌, ap, inl, sym, refl, subst}
 use Rattle.session_rules.specs.declared.call.Call.TheVariants as call
-use Rattle.session_rules.specs.Steps.{step}
+use Rattle.session_rules.specs.Deeds.{done, changed}
+use Rattle.session_rules.specs.Steps.{judge, step}
+use Rattle.session_spec.specs.Stores.{nothing_brought, with_deed, store_done}
 use Rattle.session_state.specs.Handed.{is_list}
 use Rattle.session_core.specs.Handing.{ListsOrKey}
 use Rattle.session_core.specs.Calls.{At}
@@ -11,28 +13,28 @@ use Rattle.session_core.proofs.Going.{stands_in, goes_on, made, reply_is}
 use Rattle.session_core.proofs.session.Session.pending.Goals as goal
 
 pub invariant_of-self : goal.invariant_of-self
-unfolding step
+unfolding judge step done changed store_done with_deed
 invariant_of-self g c =
-    let s = c.begin.new.self in let st = s.standing in let ok = c.in_ok-listing.ensures in
-    let x = goes_on c.args.self.now s st c.push_reserved.new.self.items c.args.caller (call.Pending c.args.p) c.in_ok-reply.reply (store st) c.begin.ensures.waits c.in_ok-begin.ensures.more tt
-    (record { setting = refl; params = refl; reply = c.in_ok-reply.ensures.same ∙ ok.reply; state = refl; store = refl })
-    (λ t y. y.honest)
+    let s = c.begin.new.self in let st = s.standing in let ok = c.in_ok-listing.ensures in let b = c.begin.ensures in
+    let x = goes_on c.args.self.now s st c.push_reserved.new.self.items c.args.caller (call.Pending c.args.p) _ c.in_ok-reply.reply nothing_brought c.in_ok-reply.ensures.same b.waits c.in_ok-begin.ensures.more tt
+    (record { setting = refl; params = refl; reply = ok.reply; state = refl; store = refl })
+    (λ t. tt)
     c.push_reserved.ensures.items in
     record { public_is = x.public_is; legal = x.legal; state_is = x.state_is; sound = x.sound }
 
 pub returns-clause-made : goal.returns-clause-made
-unfolding step
+unfolding judge step done changed store_done with_deed
 returns-clause-made g c =
     let s = c.begin.new.self in let st = s.standing in let ok = c.in_ok-listing.ensures in let b = c.begin.ensures in let push = c.push_reserved.ensures in
-    made c.args.self.now s _ c.args.caller (call.Pending c.args.p) _ _ (store st) c.in_ok-reply.ensures.same b.waits b.doubles c.in_ok-begin.ensures.room
+    made c.args.self.now s _ c.args.caller (call.Pending c.args.p) _ _ nothing_brought c.in_ok-reply.ensures.same b.waits b.doubles c.in_ok-begin.ensures.room
     (record { setting = refl; params = refl; reply = ok.reply; state = refl; store = refl }) (push.items) push.len push.capacity
 
 pub returns-in_err-listing-clause-free : goal.returns-in_err-listing-clause-free
-unfolding step
+unfolding judge step
 returns-in_err-listing-clause-free g c _ _ = subst (λ r. At ListsOrKey c.args.self.now r) (sym (reply_is c.args.self.now c.begin.new.self c.args.caller (call.Pending c.args.p) c.begin.ensures.waits)) (rw (← c.begin.ensures.waits.standing) c.in_err-listing.ensures.free)
 
 pub returns-in_err-reply-clause-free : goal.returns-in_err-reply-clause-free
-unfolding step
+unfolding judge step
 returns-in_err-reply-clause-free g c _ _ = inl (ap is_list (reply_is c.args.self.now c.begin.new.self c.args.caller (call.Pending c.args.p) c.begin.ensures.waits ∙ sym c.in_ok-listing.ensures.reply) ∙ c.in_err-reply.ensures.free)
 
 pub returns-clause-key : goal.returns-clause-key

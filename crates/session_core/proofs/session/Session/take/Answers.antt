@@ -1,32 +1,39 @@
 -- The history goes on by the call, and the polynomials stay honest.
-use Rattle.std.proofs.Common.{◌∙◌, sym}
+use Rattle.std.proofs.Common.{◌∙◌, sym, ap}
 use Rattle.session_rules.specs.declared.call.Call.TheVariants as call
-use Rattle.session_rules.specs.Steps.{step}
-use Rattle.session_laws.proofs.Circuits.{takes_keep_honest}
+use Rattle.session_rules.specs.Steps.{judge, step}
+use Rattle.session_spec.specs.Stores.{nothing_brought}
+use Rattle.session_state.specs.declared.standing.Standing.{Standing}
+use Rattle.session_state.specs.Standings.{setting, rules_of, state, store}
+use Rattle.session_core.proofs.Brought.{take_brings, take_leaves}
 use Rattle.session_core.proofs.Handed.{inputs_if}
-use Rattle.session_state.specs.Standings.{setting, state, store}
 use Rattle.session_core.proofs.Going.{stands_in, goes_on, made, reply_is}
 use Rattle.session_core.proofs.session.Session.take.Goals as goal
 
 pub invariant_of-self-2 : goal.invariant_of-self-2
-unfolding step
+unfolding judge step
 invariant_of-self-2 g c =
-    let s = c.begin.new.self in let st = s.standing in let ok = c.in_ok-taking.ensures in
-    let x = goes_on c.args.self.now s c.take.new.self c.push_reserved.new.self.items c.args.caller call.Take c.plain_copy.result (store st) c.begin.ensures.waits c.in_ok-begin.ensures.more tt
-    (record { setting = ok.setting; params = ok.params; reply = c.plain_copy.ensures ∙ ok.reply; state = ok.state; store = ok.store })
-    (λ t y. takes_keep_honest st.params (setting st) _ (state st) (store st) c.args.caller y)
+    let s = c.begin.new.self in let st = s.standing in let ok = c.in_ok-taking.ensures in let b = c.begin.ensures in
+    let x = goes_on c.args.self.now s c.take.new.self c.push_reserved.new.self.items c.args.caller call.Take _ c.plain_copy.result nothing_brought c.plain_copy.ensures b.waits c.in_ok-begin.ensures.more tt
+    (record { setting = ok.setting; params = ok.params; reply = ok.reply; state = ok.state; store = ok.store })
+    (λ t. take_brings (setting st) _ (rules_of st) (state st) c.args.caller nothing_brought)
     c.push_reserved.ensures.items in
     record { public_is = x.public_is; legal = x.legal; state_is = x.state_is; sound = x.sound }
 
 pub returns-clause-made : goal.returns-clause-made
-unfolding step
+unfolding judge step
 returns-clause-made g c =
     let s = c.begin.new.self in let st = s.standing in let ok = c.in_ok-taking.ensures in let b = c.begin.ensures in let push = c.push_reserved.ensures in
-    made c.args.self.now s _ c.args.caller call.Take _ _ (store st) c.plain_copy.ensures b.waits b.doubles c.in_ok-begin.ensures.room
+    made c.args.self.now s _ c.args.caller call.Take _ _ nothing_brought c.plain_copy.ensures b.waits b.doubles c.in_ok-begin.ensures.room
     (record { setting = ok.setting; params = ok.params; reply = ok.reply; state = ok.state; store = ok.store }) (push.items) push.len push.capacity
 
+pub returns-clause-store : goal.returns-clause-store
+returns-clause-store g c =
+    let st = c.begin.new.self.standing in
+    c.in_ok-taking.ensures.store ∙ take_leaves (setting st) (rules_of st) (state st) c.args.caller nothing_brought _ (store st) ∙ ap (λ (z : Standing). store z) c.begin.ensures.waits.standing
+
 pub returns-in_err-taking-clause-free : goal.returns-in_err-taking-clause-free
-unfolding step
+unfolding judge step
 returns-in_err-taking-clause-free g c _ _ none = c.in_err-taking.ensures.free (sym (reply_is c.args.self.now c.begin.new.self c.args.caller call.Take c.begin.ensures.waits) ∙ none)
 
 pub returns-clause-job : goal.returns-clause-job

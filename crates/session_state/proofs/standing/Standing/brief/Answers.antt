@@ -1,4 +1,4 @@
-use Rattle.std.proofs.Common.{◌≡◌, ◌∙◌, sym, ap, subst, refl, true, false, Some, None}
+use Rattle.std.proofs.Common.{◌≡◌, ◌∙◌, sym, ap, subst, refl, true, false, Some}
 use Rattle.std.specs.Option.{option_copied}
 use Rattle.proto_names.specs.Instances.{instance}
 use Rattle.proto_names.specs.declared.instance.Instance.{Instance}

@@ -8,7 +8,8 @@ use Rattle.session_rules.specs.Facts.{Kept}
 use Rattle.session_rules.proofs.Marks.{instance_within}
 use Rattle.session_spec.specs.Settings.{Setting, rules}
 use Rattle.session_spec.specs.Stores.{Store, with_rows}
-use Rattle.session_state.specs.Completions.{IsPlanned, last_counted}
+use Rattle.session_state.specs.Completions.{last_counted}
+use Rattle.session_state.specs.Issuings.{IsPlanned}
 use Rattle.session_state.specs.Standings.{setting, rules_of, state, store}
 use Rattle.session_state.proofs.Asked.{only_pk, asked_one, one_row, same_number, answer_outputs, rows_outputs}
 use Rattle.session_state.proofs.LastShares.{evaluated_there, was_evaluated, last_next}

@@ -1,171 +1,130 @@
--- What becomes of a share is what the rules say.
-use Rattle.std.proofs.Common.{rules, ◌≡◌, ◌≢◌, ◌∙◌, sym, ap, ap₂, ℕ, length}
-use Rattle.proto_names.specs.Instances.{instance, missing, after_share}
+-- A share that isn't refused is counted, and what the last one leads to is done.
+use Rattle.std.proofs.Common.{◌≡◌, ◌≢◌, ◌∙◌, sym, ap, refl, ℕ, List, length, Some}
+use Rattle.std.proofs.lemmas.Bool.{eq-eqb, ne_eqb}
+use Rattle.proto_names.specs.Instances.{missing, after_share}
 use Rattle.proto_names.specs.declared.instance.Instance.{Instance}
-use Rattle.session_rules.specs.declared.reply.Reply.{Reply}
 use Rattle.session_rules.specs.declared.reply.Reply.TheVariants as reply
-use Rattle.session_rules.specs.States.{State}
+use Rattle.session_rules.specs.declared.deed.Deed.TheVariants.{Counts}
+use Rattle.session_rules.specs.declared.deed.Verdict.{Verdict}
 use Rattle.session_rules.specs.Issues.{issue}
+use Rattle.session_rules.specs.Deeds.{counts_for}
+use Rattle.session_rules.specs.Steps.{does, counted}
 use Rattle.session_rules.specs.Facts.{Kept}
-use Rattle.session_spec.specs.Stores.{with_answer, with_rows, grown}
+use Rattle.session_rules.proofs.PartySets.{has_party}
+use Rattle.session_spec.specs.Settings.{Setting}
+use Rattle.session_spec.specs.Stores.{Store, share_brought, with_rows, with_answer, with_share, with_deed, grown}
 use Rattle.session_state.specs.Completions.{last_counted}
-use Rattle.session_state.specs.Standings.{setting, rules_of, state, store, delivered}
-use Rattle.session_state.specs.Verdicts.{judged}
+use Rattle.session_state.specs.Standings.{setting, rules_of, state, store, delivered, state_then, store_then}
 use Rattle.session_state.specs.Wanted.{IsWanted}
 use Rattle.session_state.specs.declared.standing.Standing.{Standing}
-use Rattle.session_state.specs.declared.verdicts.Verdict.{Verdict}
-use Rattle.session_state.specs.declared.verdicts.Verdict.TheVariants.{Refused, Counts}
-use Rattle.session_state.proofs.Counting.{gadget}
-use Rattle.session_state.proofs.Judging.{refused_so, counts_so, is_wanted, counted_last, counted_more, store_refused, store_last, store_more}
+use Rattle.session_state.proofs.Counting.{more_is}
+use Rattle.session_state.proofs.LastShares.{last_is}
+use Rattle.session_state.proofs.Takings.{on_err}
+use Rattle.session_state.proofs.Onward.{refused, its_deed, ends_state, ends_store, issued_state, issued_store}
 use Rattle.session_state.proofs.standing.Standing.deliver.Goals as goal
+use Rattle.session_state.proofs.standing.Standing.deliver.Goals.{then-missing-eq0+in_ok-complete, else-missing-eq0}
 
--- the verdict, with the rows as the rules look at them
-by_rules : (st : Standing) (l id p n rows : ℕ) (v : Verdict) → l ≡ (rules_of st).rows → n ≡ rows → v ≡ judged l st.table.instances.items id p n
-    → v ≡ judged (rules_of st).rows (state st).instances id p rows
-by_rules st l id p n rows v gadget count e = e ∙ ap₂ (λ (a b : ℕ). judged a st.table.instances.items id p b) gadget count
+-- ---- nothing is done
 
--- a share that is counted
-record Counted (st : Standing) (id p rows : ℕ) (i : Instance) (more : ℕ) : Type 0 where
-  wanted : IsWanted (rules_of st) (state st) id p rows i
-  left : more ≡ missing p i
-  last_said : more ≡ 0 → delivered st id p rows ≡ (reply.Completed, issue (rules_of st) (last_counted (state st) i id p))
-  more_said : more ≢ 0 → delivered st id p rows ≡ (reply.Counted more, record (state st) { instances = after_share id p (state st).instances })
+pub returns-in_default-clause-state : goal.returns-in_default-clause-state
+returns-in_default-clause-state c =
+    let st = c.args.self.now in let share = c.args.share.now in let e = c.verdict_on_share-verdict.ensures in
+    (refused st c.verdict_on_share-verdict.result (delivered st share.id share.party (length share.rows)) (share_brought share.rows) e.said (e.refused (sym c.counts.ensures ∙ c.in_default.is))).0
 
-counted_so : (st : Standing) (id p rows : ℕ) (i : Instance) (more : ℕ) → Kept (rules_of st) (state st) → Counts i more ≡ judged (rules_of st).rows (state st).instances id p rows → Counted st id p rows i more
-counted_so st id p rows i more k e =
-    let f = rules_of st in let s = state st in
-    let h = counts_so f s id p rows i more e in
-    let w = is_wanted f s id p rows i more k e in
-    let left = h.shaped.left in
-    record {
-      wanted = w;
-      left = left;
-      last_said = λ last. h.shaped.is_said ∙ counted_last f s id p i w.number (sym left ∙ last);
-      more_said = λ more_. h.shaped.is_said ∙ counted_more f s id p i w.number (λ none. more_ (left ∙ none))
-          ∙ ap (λ (n : ℕ). (reply.Counted n, record s { instances = after_share id p s.instances })) (sym left);
-    }
+pub returns-in_default-clause-store : goal.returns-in_default-clause-store
+returns-in_default-clause-store c =
+    let st = c.args.self.now in let share = c.args.share.now in let e = c.verdict_on_share-verdict.ensures in
+    (refused st c.verdict_on_share-verdict.result (delivered st share.id share.party (length share.rows)) (share_brought share.rows) e.said (e.refused (sym c.counts.ensures ∙ c.in_default.is))).1
 
-pub count-requires-clause-wanted : goal.count-requires-clause-wanted
-count-requires-clause-wanted c =
-    let st = c.args.self.now in let id = c.args.share.now.id in let p = c.args.share.now.party in let rows = c.args.share.now.rows in
-    let i = c.in-Counts.instance in
-    let v = by_rules st c.rows.result id p c.len-rows.result (length rows) (Counts i c.in-Counts.missing) (c.rows.ensures.rows ∙ sym (gadget st)) c.len-rows.ensures c.in-Counts.ensures in
-    let h = counted_so st id p (length rows) i c.in-Counts.missing c.requires.kept v in
-    h.wanted
+-- ---- the share is wanted
 
-pub count-requires-clause-more : goal.count-requires-clause-more
-count-requires-clause-more c =
-    let st = c.args.self.now in let id = c.args.share.now.id in let p = c.args.share.now.party in let rows = c.args.share.now.rows in
-    let i = c.in-Counts.instance in
-    let v = by_rules st c.rows.result id p c.len-rows.result (length rows) (Counts i c.in-Counts.missing) (c.rows.ensures.rows ∙ sym (gadget st)) c.len-rows.ensures c.in-Counts.ensures in
-    let h = counted_so st id p (length rows) i c.in-Counts.missing c.requires.kept v in
-    λ none. c.if-missing-eq0.false (h.left ∙ none)
+pub missing-requires-clause-first : goal.missing-requires-clause-first
+missing-requires-clause-first c =
+    let i = c.in-Some.instance in
+    (has_party i.set.bits c.args.share.now.party (c.verdict_on_share-verdict.ensures.wanted i (sym c.counts.ensures ∙ c.in-Some.is)).member).0
+
+pub missing-requires-clause-last : goal.missing-requires-clause-last
+missing-requires-clause-last c =
+    let i = c.in-Some.instance in
+    (has_party i.set.bits c.args.share.now.party (c.verdict_on_share-verdict.ensures.wanted i (sym c.counts.ensures ∙ c.in-Some.is)).member).1
 
 pub complete-requires-clause-wanted : goal.complete-requires-clause-wanted
-complete-requires-clause-wanted c =
-    let st = c.args.self.now in let id = c.args.share.now.id in let p = c.args.share.now.party in let rows = c.args.share.now.rows in
-    let i = c.in-Counts.instance in
-    let v = by_rules st c.rows.result id p c.len-rows.result (length rows) (Counts i c.in-Counts.missing) (c.rows.ensures.rows ∙ sym (gadget st)) c.len-rows.ensures c.in-Counts.ensures in
-    let h = counted_so st id p (length rows) i c.in-Counts.missing c.requires.kept v in
-    h.wanted
+complete-requires-clause-wanted c = c.verdict_on_share-verdict.ensures.wanted c.in-Some.instance (sym c.counts.ensures ∙ c.in-Some.is)
 
-pub complete-requires-clause-last : goal.complete-requires-clause-last
-complete-requires-clause-last c =
-    let st = c.args.self.now in let id = c.args.share.now.id in let p = c.args.share.now.party in let rows = c.args.share.now.rows in
-    let i = c.in-Counts.instance in
-    let v = by_rules st c.rows.result id p c.len-rows.result (length rows) (Counts i c.in-Counts.missing) (c.rows.ensures.rows ∙ sym (gadget st)) c.len-rows.ensures c.in-Counts.ensures in
-    let h = counted_so st id p (length rows) i c.in-Counts.missing c.requires.kept v in
-    sym h.left ∙ c.if-missing-eq0.true
+pub count-requires-clause-wanted : goal.count-requires-clause-wanted
+count-requires-clause-wanted c = c.verdict_on_share-verdict.ensures.wanted c.in-Some.instance (sym c.counts.ensures ∙ c.in-Some.is)
 
-pub returns-in-Refused-clause-reply : goal.returns-in-Refused-clause-reply
-returns-in-Refused-clause-reply c =
-    let st = c.args.self.now in let id = c.args.share.now.id in let p = c.args.share.now.party in let rows = c.args.share.now.rows in
-    let r = c.in-Refused.reply in
-    let v = by_rules st c.rows.result id p c.len-rows.result (length rows) (Refused r) (c.rows.ensures.rows ∙ sym (gadget st)) c.len-rows.ensures c.in-Refused.ensures in
-    let h = refused_so (rules_of st) (state st) id p (length rows) r v in
-    ap (λ (x : Reply × State). x.0) (sym h.is_said)
+-- ---- it is counted
 
-pub returns-in-Refused-clause-plain : goal.returns-in-Refused-clause-plain
-returns-in-Refused-clause-plain c =
-    let st = c.args.self.now in let id = c.args.share.now.id in let p = c.args.share.now.party in let rows = c.args.share.now.rows in
-    let r = c.in-Refused.reply in
-    let v = by_rules st c.rows.result id p c.len-rows.result (length rows) (Refused r) (c.rows.ensures.rows ∙ sym (gadget st)) c.len-rows.ensures c.in-Refused.ensures in
-    let h = refused_so (rules_of st) (state st) id p (length rows) r v in
-    h.plain
+adds_more : (w : Setting) (i : Instance) (id p : ℕ) (rows : List (List ℕ)) (h : Store) → i.id ≡ id → missing p i ≢ 0 → with_deed w (Counts i p) (share_brought rows) h ≡ with_rows w id rows h
+unfolding with_deed with_share
+adds_more w i id p rows h number more = rw (ne_eqb (missing p i) 0 more) (ap (λ (n : ℕ). with_rows w n rows h) number)
 
-pub returns-in-Refused-clause-state : goal.returns-in-Refused-clause-state
-returns-in-Refused-clause-state c =
-    let st = c.args.self.now in let id = c.args.share.now.id in let p = c.args.share.now.party in let rows = c.args.share.now.rows in
-    let r = c.in-Refused.reply in
-    let v = by_rules st c.rows.result id p c.len-rows.result (length rows) (Refused r) (c.rows.ensures.rows ∙ sym (gadget st)) c.len-rows.ensures c.in-Refused.ensures in
-    let h = refused_so (rules_of st) (state st) id p (length rows) r v in
-    ap (λ (x : Reply × State). x.1) (sym h.is_said)
+adds_last : (w : Setting) (i : Instance) (id p : ℕ) (rows : List (List ℕ)) (h : Store) → i.id ≡ id → missing p i ≡ 0
+    → with_deed w (Counts i p) (share_brought rows) h ≡ with_answer w id i.signature (with_rows w id rows h)
+unfolding with_deed with_share
+adds_last w i id p rows h number last = rw (eq-eqb (missing p i) 0 last) (ap (λ (n : ℕ). with_answer w n i.signature (with_rows w n rows h)) number)
 
-pub returns-in-Refused-clause-store : goal.returns-in-Refused-clause-store
-returns-in-Refused-clause-store c =
-    let st = c.args.self.now in let id = c.args.share.now.id in let p = c.args.share.now.party in let rows = c.args.share.now.rows in
-    let r = c.in-Refused.reply in
-    let v = by_rules st c.rows.result id p c.len-rows.result (length rows) (Refused r) (c.rows.ensures.rows ∙ sym (gadget st)) c.len-rows.ensures c.in-Refused.ensures in
-    let h = refused_so (rules_of st) (state st) id p (length rows) r v in
-    sym (store_refused (setting st) rows (store st) (state st) r (delivered st id p (length rows)) (instance st.table.instances.items id) h)
+completed : (p : ℕ) (i : Instance) → missing p i ≡ 0 → counted p i ≡ reply.Completed
+unfolding counted
+completed p i last = rw (eq-eqb (missing p i) 0 last) refl
 
-pub returns-in_ok-complete-in-Counts-clause-reply : goal.returns-in_ok-complete-in-Counts-clause-reply
-returns-in_ok-complete-in-Counts-clause-reply c =
-    let st = c.args.self.now in let id = c.args.share.now.id in let p = c.args.share.now.party in let rows = c.args.share.now.rows in
-    let i = c.in-Counts.instance in
-    let v = by_rules st c.rows.result id p c.len-rows.result (length rows) (Counts i c.in-Counts.missing) (c.rows.ensures.rows ∙ sym (gadget st)) c.len-rows.ensures c.in-Counts.ensures in
-    let h = counted_so st id p (length rows) i c.in-Counts.missing c.requires.kept v in
-    ap (λ (x : Reply × State). x.0) (sym (h.last_said c.if-missing-eq0.true))
+module _ (st now : Standing) (id p : ℕ) (rows : List (List ℕ)) (i : Instance) (v : Verdict) (k : Kept (rules_of st) (state st)) (want : IsWanted (rules_of st) (state st) id p (length rows) i)
+    (said : v ≡ delivered st id p (length rows)) (counts : v ≡ does (counted p i) (Counts i p)) where
+  deed : (delivered st id p (length rows)).deed ≡ Counts i p
+  deed = its_deed v (delivered st id p (length rows)) (counted p i) (Counts i p) said counts
 
-pub returns-in_ok-complete-in-Counts-clause-state : goal.returns-in_ok-complete-in-Counts-clause-state
-returns-in_ok-complete-in-Counts-clause-state c =
-    let st = c.args.self.now in let id = c.args.share.now.id in let p = c.args.share.now.party in let rows = c.args.share.now.rows in
-    let i = c.in-Counts.instance in
-    let v = by_rules st c.rows.result id p c.len-rows.result (length rows) (Counts i c.in-Counts.missing) (c.rows.ensures.rows ∙ sym (gadget st)) c.len-rows.ensures c.in-Counts.ensures in
-    let h = counted_so st id p (length rows) i c.in-Counts.missing c.requires.kept v in
-    c.in_ok-complete-in-Counts.ensures.state ∙ ap (λ (x : Reply × State). x.1) (sym (h.last_said c.if-missing-eq0.true))
+  more_state : missing p i ≢ 0 → state now ≡ record (state st) { instances = after_share id p (state st).instances } → state now ≡ state_then st (delivered st id p (length rows))
+  more_state more e =
+      ends_state st now (delivered st id p (length rows)) (Counts i p) (share_brought rows) deed (ne_eqb (missing p i) 0 more)
+      (e ∙ sym (more_is st.params (rules_of st) (state st) id p (length rows) i k want more))
 
-pub returns-in_ok-complete-in-Counts-clause-store : goal.returns-in_ok-complete-in-Counts-clause-store
-returns-in_ok-complete-in-Counts-clause-store c =
-    let st = c.args.self.now in let id = c.args.share.now.id in let p = c.args.share.now.party in let rows = c.args.share.now.rows in
-    let i = c.in-Counts.instance in
-    let v = by_rules st c.rows.result id p c.len-rows.result (length rows) (Counts i c.in-Counts.missing) (c.rows.ensures.rows ∙ sym (gadget st)) c.len-rows.ensures c.in-Counts.ensures in
-    let h = counted_so st id p (length rows) i c.in-Counts.missing c.requires.kept v in
-    let t : State = issue (rules_of st) (last_counted (state st) i id p) in
-    c.in_ok-complete-in-Counts.ensures.store
-    ∙ ap (λ (z : State). grown (setting st) z.instances (with_answer (setting st) id i.signature (with_rows (setting st) id rows (store st)))) c.in_ok-complete-in-Counts.ensures.state
-    ∙ sym (store_last (setting st) id i rows (store st) t (delivered st id p (length rows)) (instance st.table.instances.items id) h.wanted.issued h.wanted.number (h.last_said c.if-missing-eq0.true))
+  more_store : missing p i ≢ 0 → store now ≡ with_rows (setting st) id rows (store st) → store now ≡ store_then st (delivered st id p (length rows)) (share_brought rows)
+  more_store more e =
+      ends_store st now (delivered st id p (length rows)) (Counts i p) (share_brought rows) deed (ne_eqb (missing p i) 0 more)
+      (e ∙ sym (adds_more (setting st) i id p rows (store st) want.number more))
 
-pub returns-else-missing-eq0-clause-reply : goal.returns-else-missing-eq0-clause-reply
-returns-else-missing-eq0-clause-reply c =
-    let st = c.args.self.now in let id = c.args.share.now.id in let p = c.args.share.now.party in let rows = c.args.share.now.rows in
-    let i = c.in-Counts.instance in
-    let v = by_rules st c.rows.result id p c.len-rows.result (length rows) (Counts i c.in-Counts.missing) (c.rows.ensures.rows ∙ sym (gadget st)) c.len-rows.ensures c.in-Counts.ensures in
-    let h = counted_so st id p (length rows) i c.in-Counts.missing c.requires.kept v in
-    ap (λ (x : Reply × State). x.0) (sym (h.more_said c.if-missing-eq0.false))
+  last_state : missing p i ≡ 0 → state now ≡ issue (rules_of st) (last_counted (state st) i id p) → state now ≡ state_then st (delivered st id p (length rows))
+  last_state last e =
+      issued_state st now (delivered st id p (length rows)) (Counts i p) (share_brought rows) deed (eq-eqb (missing p i) 0 last)
+      (e ∙ ap (issue (rules_of st)) (sym (last_is st.params (rules_of st) (state st) id p (length rows) i k want last)))
 
-pub returns-else-missing-eq0-clause-state : goal.returns-else-missing-eq0-clause-state
-returns-else-missing-eq0-clause-state c =
-    let st = c.args.self.now in let id = c.args.share.now.id in let p = c.args.share.now.party in let rows = c.args.share.now.rows in
-    let i = c.in-Counts.instance in
-    let v = by_rules st c.rows.result id p c.len-rows.result (length rows) (Counts i c.in-Counts.missing) (c.rows.ensures.rows ∙ sym (gadget st)) c.len-rows.ensures c.in-Counts.ensures in
-    let h = counted_so st id p (length rows) i c.in-Counts.missing c.requires.kept v in
-    c.count.ensures.state ∙ ap (λ (x : Reply × State). x.1) (sym (h.more_said c.if-missing-eq0.false))
+  last_store : missing p i ≡ 0 → state now ≡ state_then st (delivered st id p (length rows))
+      → store now ≡ grown (setting st) (state now).instances (with_answer (setting st) id i.signature (with_rows (setting st) id rows (store st))) → store now ≡ store_then st (delivered st id p (length rows)) (share_brought rows)
+  last_store last same e =
+      issued_store st now (delivered st id p (length rows)) (Counts i p) (share_brought rows) deed (eq-eqb (missing p i) 0 last) same
+      (e ∙ ap (grown (setting st) (state now).instances) (sym (adds_last (setting st) i id p rows (store st) want.number last)))
 
-pub returns-else-missing-eq0-clause-store : goal.returns-else-missing-eq0-clause-store
-returns-else-missing-eq0-clause-store c =
-    let st = c.args.self.now in let id = c.args.share.now.id in let p = c.args.share.now.party in let rows = c.args.share.now.rows in
-    let i = c.in-Counts.instance in
-    let v = by_rules st c.rows.result id p c.len-rows.result (length rows) (Counts i c.in-Counts.missing) (c.rows.ensures.rows ∙ sym (gadget st)) c.len-rows.ensures c.in-Counts.ensures in
-    let h = counted_so st id p (length rows) i c.in-Counts.missing c.requires.kept v in
-    c.count.ensures.store
-    ∙ sym (store_more (setting st) id i rows (store st) _ c.in-Counts.missing (delivered st id p (length rows)) (instance st.table.instances.items id) h.wanted.issued h.wanted.number (h.more_said c.if-missing-eq0.false))
+pub returns-in_err-complete-clause-free : goal.returns-in_err-complete-clause-free
+returns-in_err-complete-clause-free c =
+    let st = c.args.self.now in let share = c.args.share.now in let e = c.verdict_on_share-verdict.ensures in let i = c.in-Some.instance in
+    on_err c.from_residual.result ((delivered st share.id share.party (length share.rows)).reply ≡ reply.Completed)
+    (ap (λ (z : Verdict). z.reply) (sym e.said ∙ e.counts i (sym c.counts.ensures ∙ c.in-Some.is)) ∙ completed share.party i (sym c.missing.ensures ∙ c.if-missing-eq0.true))
 
-pub returns-in_err-complete-in-Counts-clause-free : goal.returns-in_err-complete-in-Counts-clause-free
-returns-in_err-complete-in-Counts-clause-free c =
-    let st = c.args.self.now in let id = c.args.share.now.id in let p = c.args.share.now.party in let rows = c.args.share.now.rows in
-    let i = c.in-Counts.instance in
-    let v = by_rules st c.rows.result id p c.len-rows.result (length rows) (Counts i c.in-Counts.missing) (c.rows.ensures.rows ∙ sym (gadget st)) c.len-rows.ensures c.in-Counts.ensures in
-    let h = counted_so st id p (length rows) i c.in-Counts.missing c.requires.kept v in
-    let free : (delivered st id p (length rows)).0 ≡ reply.Completed = ap (λ (x : Reply × State). x.0) (h.last_said c.if-missing-eq0.true) in
-    search (rules, free)
+pub returns-clause-state : goal.returns-clause-state
+returns-clause-state c =
+    let st = c.args.self.now in let share = c.args.share.now in let i = c.in-Some.instance in let v = c.verdict_on_share-verdict in
+    let some : counts_for v.result.deed ≡ Some i = sym c.counts.ensures ∙ c.in-Some.is in
+    elim c.if-missing-eq0.branch [
+      | then-missing-eq0+in_ok-complete w ↦ ap (λ (z : Standing). state z) w.self-is
+          ∙ last_state st w.complete.new.self share.id share.party share.rows i v.result c.requires.kept (v.ensures.wanted i some) v.ensures.said (v.ensures.counts i some)
+          (sym c.missing.ensures ∙ w.if-missing-eq0.true) w.in_ok-complete.ensures.state
+      | else-missing-eq0 w ↦ ap (λ (z : Standing). state z) w.self-is
+          ∙ more_state st w.count.new.self share.id share.party share.rows i v.result c.requires.kept (v.ensures.wanted i some) v.ensures.said (v.ensures.counts i some)
+          (λ none. w.if-missing-eq0.false (c.missing.ensures ∙ none)) w.count.ensures.state
+    ]
+
+pub returns-clause-store : goal.returns-clause-store
+returns-clause-store c =
+    let st = c.args.self.now in let share = c.args.share.now in let i = c.in-Some.instance in let v = c.verdict_on_share-verdict in
+    let some : counts_for v.result.deed ≡ Some i = sym c.counts.ensures ∙ c.in-Some.is in
+    elim c.if-missing-eq0.branch [
+      | then-missing-eq0+in_ok-complete w ↦
+          let last : missing share.party i ≡ 0 = sym c.missing.ensures ∙ w.if-missing-eq0.true in
+          let its = last_state st w.complete.new.self share.id share.party share.rows i v.result c.requires.kept (v.ensures.wanted i some) v.ensures.said (v.ensures.counts i some) last w.in_ok-complete.ensures.state in
+          ap (λ (z : Standing). store z) w.self-is
+          ∙ last_store st w.complete.new.self share.id share.party share.rows i v.result c.requires.kept (v.ensures.wanted i some) v.ensures.said (v.ensures.counts i some) last its w.in_ok-complete.ensures.store
+      | else-missing-eq0 w ↦ ap (λ (z : Standing). store z) w.self-is
+          ∙ more_store st w.count.new.self share.id share.party share.rows i v.result c.requires.kept (v.ensures.wanted i some) v.ensures.said (v.ensures.counts i some)
+          (λ none. w.if-missing-eq0.false (c.missing.ensures ∙ none)) w.count.ensures.store
+    ]

@@ -1,15 +1,11 @@
 -- What is issued stands behind the others, and changes nothing of them.
 use Rattle.std.proofs.Common.{◌≡◌, ◌∙◌, sym, subst, List, ◌++◌, map, fold}
 use Rattle.instance_table.specs.declared.table.Table.{Table}
-use Rattle.session_rules.specs.declared.fixed.Fixed.{Fixed}
-use Rattle.session_rules.specs.States.{State, seen}
+use Rattle.session_rules.specs.States.{State}
 use Rattle.session_rules.specs.Issues.{issue, instances_after}
-use Rattle.session_rules.specs.Facts.{Kept, IsLater}
-use Rattle.session_rules.proofs.Changes.{issue_goes}
-use Rattle.session_rules.proofs.Keeps.{Anybody, change_next}
-use Rattle.session_rules.proofs.Later.{later_reflexive, later_transitive}
-use Rattle.session_state.specs.Completions.{IsPlanned}
-use Rattle.session_state.specs.Issuings.{move_of, brief_of, sums_of}
+use Rattle.session_rules.specs.Facts.{Kept}
+use Rattle.session_rules.proofs.Keeps.{issue_next}
+use Rattle.session_state.specs.Issuings.{move_of, brief_of, sums_of, IsPlanned}
 use Rattle.session_state.specs.Parts.{store_by}
 use Rattle.session_state.specs.Standings.{setting, rules_of, state, store}
 use Rattle.session_state.specs.declared.issuing.Step.{Step}
@@ -17,32 +13,22 @@ use Rattle.session_state.specs.declared.standing.Standing.{Standing}
 use Rattle.session_state.proofs.Growth.{IsIssued, Grows, issued_state, grows}
 use Rattle.session_state.proofs.standing.Standing.issue_planned.Goals as goal
 
-kept_then : (f : Fixed) (s : State) → Kept f s → Kept f (issue f s)
-kept_then f s k = (issue_goes f Anybody 0 (Kept f) IsLater later_reflexive later_transitive (change_next 0 f) s k).0
-
 record Issues (st : Standing) (t : Table) : Type 0 where
-  state_is : seen st.present.bits t.instances.items st.given.items st.states.items ≡ issue (rules_of st) (state st)
+  state_is : record (state st) { instances = t.instances.items } ≡ issue (rules_of st) (state st)
   grows_so : Grows st.params (setting st) (state st) t.instances.items (store st) (store_by t.briefs.items t.sums.items st.inputs.items st.outputs st.answers)
 
 issues : (st : Standing) (t : Table) (xs : List Step) → Kept (rules_of st) (state st) → IsPlanned st.params (rules_of st) (state st) (store st).outputs xs
     → t.instances.items ≡ fold instances_after st.table.instances.items (map move_of xs) → t.briefs.items ≡ st.table.briefs.items ++ map brief_of xs
     → t.sums.items ≡ st.table.sums.items ++ map sums_of xs → Issues st t
 issues st t xs k planned instances briefs sums =
-    let is = st.table.instances.items in let js = t.instances.items in let f = rules_of st in
-    let r : IsIssued st.params f st.present.bits is js st.states.items st.outputs st.table.briefs.items t.briefs.items st.table.sums.items t.sums.items xs = record {
-      moves = planned.moves;
-      instances = instances;
-      briefs_are = briefs;
-      sums_are = sums;
-      polys = planned.polys;
-      fresh_ = planned.fresh;
-    } in
-    let said = issued_state st.params f st.present.bits is js st.given.items st.states.items st.outputs st.table.briefs.items t.briefs.items st.table.sums.items t.sums.items xs r in
+    let js = t.instances.items in let f = rules_of st in
+    let r : IsIssued st.params f (state st) js st.outputs st.table.briefs.items t.briefs.items st.table.sums.items t.sums.items xs = record { planned = planned; instances = instances; briefs_are = briefs; sums_are = sums } in
+    let said = issued_state st.params f (state st) js st.outputs st.table.briefs.items t.briefs.items st.table.sums.items t.sums.items xs r in
     record {
       state_is = said;
-      grows_so = grows st.params st.public st.circuits f st.present.bits is js st.given.items st.states.items st.inputs.items st.outputs st.answers
+      grows_so = grows st.params st.public st.circuits f (state st) js st.inputs.items st.outputs st.answers
           st.table.briefs.items t.briefs.items st.table.sums.items t.sums.items xs r st.matches st.holds k.numbered
-          (subst (λ (s : State). Kept f s) (sym said) (kept_then f (state st) k));
+          (subst (λ (s : State). Kept f s) (sym said) (issue_next f (state st) k).0);
     }
 
 pub carry_out-requires-clause-ids : goal.carry_out-requires-clause-ids

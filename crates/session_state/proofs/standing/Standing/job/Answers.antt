@@ -9,7 +9,6 @@ use Rattle.cipher_spec.specs.Ciphers.{is_switch_free}
 use Rattle.session_spec.specs.Settings.{Offer, nodes_at}
 use Rattle.session_spec.specs.Stores.{cipher_or}
 use Rattle.session_state.specs.Parts.{ciphers_in}
-use Rattle.session_state.specs.Handed.{IsJobFor, CanEvaluate}
 use Rattle.session_state.specs.Standings.{setting, state, store}
 use Rattle.session_state.proofs.Rows.{inputs_number, row_is}
 use Rattle.session_state.proofs.Takings.{has_inputs, all_there, all_fit, circuit_keeps}

@@ -1,17 +1,13 @@
-use Rattle.std.proofs.Common.{◌≡◌, ◌∙◌, sym, ap, subst, refl, ℕ, ◌≤◌, List, length, map, replicate, Option, None, Bool}
+use Rattle.std.proofs.Common.{◌≡◌, ◌∙◌, sym, ap, subst, refl, ℕ, ◌≤◌, List, length, map, replicate, Option, None}
 use Rattle.std.specs.Prelude.{All}
 use Rattle.std.proofs.lemmas.List.{length-map}
 use Rattle.ring_spec.specs.Pairs.{Cipher}
 use Rattle.mod_ring.specs.declared.ring.Ring.{Ring}
 use Rattle.param_set.specs.declared.params.Params.{Params}
-use Rattle.proto_names.specs.declared.signature.Signature.{Signature}
-use Rattle.session_rules.specs.declared.fixed.Plan.{Plan}
 use Rattle.session_rules.specs.declared.fixed.Fixed.{Fixed}
-use Rattle.session_rules.specs.States.{none_given, opening_of, plan, State, opening}
+use Rattle.session_rules.specs.States.{none_given, opening_of, plan, opening}
 use Rattle.session_rules.specs.Issues.{keys}
-use Rattle.session_spec.specs.Settings.{Setting, rules, Keeps}
-use Rattle.session_spec.specs.Stores.{Store, empty}
-use Rattle.session_spec.specs.Laws.{Matches}
+use Rattle.session_spec.specs.Settings.{rules, Keeps}
 use Rattle.session_state.specs.Parts.{setting_by, polys_in}
 use Rattle.session_state.proofs.Rows.{rules_number}
 use Rattle.session_state.proofs.Openings.{AreFew, few_keys, opens_matches, opens_holds, few_inputs, rules_from, state_opens, store_opens, opening_keyed}

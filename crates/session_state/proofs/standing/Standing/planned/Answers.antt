@@ -4,11 +4,13 @@ use Rattle.mod_ring.specs.declared.ring.Ring.{Ring}
 use Rattle.session_rules.specs.declared.state.CircuitState.{CircuitState}
 use Rattle.session_rules.specs.declared.state.CircuitState.TheVariants.{Evaluated}
 use Rattle.session_rules.specs.States.{circuit}
+use Rattle.proto_names.specs.Instances.{after_share}
+use Rattle.session_rules.specs.Deeds.{answered_by}
 use Rattle.session_rules.specs.Issues.{most_moves}
 use Rattle.session_rules.specs.Facts.{is_settled}
 use Rattle.session_rules.proofs.PartySets.{has_party}
 use Rattle.session_state.specs.Standings.{rules_of, state}
-use Rattle.session_state.proofs.Planned.{no_first_after_share}
+use Rattle.session_state.proofs.Planned.{no_first_after_share, plan_for, ok_then}
 use Rattle.session_state.proofs.LastShares.{evaluated_there}
 use Rattle.session_state.proofs.Asked.{only_pk, same_number, answered_length, evaluated_before}
 use Rattle.session_state.proofs.standing.Standing.planned.Goals as goal
@@ -53,3 +55,10 @@ plan-requires-clause-outputs c place e =
     evaluated_before c.args.instance.now.signature st.states.items place (sym (ap (λ (xs : List CircuitState). circuit xs place) c.requires.states) ∙ e) in
     let settled : is_settled (circuit st.states.items place) ≡ true = rw before refl in
     rw ring (st.holds.outputs place (evaluated_there st.states.items place before) settled)
+
+pub returns-clause-planned : goal.returns-clause-planned
+returns-clause-planned c =
+    let st = c.args.self.now in
+    let ring : c.deref.result.now.params ≡ st.params = ap (λ (r : Ring). r.params) c.deref.ensures ∙ st.ring_is in
+    ok_then c.plan.result _ _ (λ x h. plan_for c.deref.result.now.params st.params st.rules (rules_of st) st.present.bits c.in_ok-instances.instances.items (after_share c.args.share.now.id c.args.share.now.party st.table.instances.items)
+    st.given.items c.args.states.now (answered_by c.args.instance.now.signature st.states.items) st.outputs x.steps.items ring st.rules_are c.in_ok-instances.ensures c.requires.states h) c.plan.ensures.planned

@@ -1,7 +1,7 @@
 -- The last share of the public key makes the key of its sums.
 use Rattle.std.proofs.Common.{◌≡◌, ◌∙◌, ap, refl, length}
 use Rattle.mod_ring.specs.declared.ring.Ring.{Ring}
-use Rattle.session_rules.specs.Steps.{answered_by}
+use Rattle.session_rules.specs.Deeds.{answered_by}
 use Rattle.session_spec.specs.Stores.{with_rows, with_answer}
 use Rattle.session_state.specs.Standings.{setting, rules_of, state, store}
 use Rattle.session_state.proofs.Counting.{gadget, awaited, rows_fit}
