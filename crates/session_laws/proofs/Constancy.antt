@@ -1,5 +1,5 @@
 -- What is defined for a circuit or an instance is the same in every longer history.
-use Rattle.std.proofs.Common.{◌≡◌, ◌∙◌, sym, ap, subst, refl, ℕ, ◌-◌, ◌<◌, Bool, true, false, inl, inr, List, [], cond, length, get_or, Some, None, arith}
+use Rattle.std.proofs.Common.{◌≡◌, ◌∙◌, sym, ap, subst, refl, ℕ, ◌-◌, ◌<◌, Bool, true, false, inl, inr, List, cond, length, get_or, Some, None, arith}
 use Rattle.std.specs.Prelude.{nat_eq}
 use Rattle.std.specs.List.{slice_get}
 use Rattle.std.proofs.lemmas.Option.{slice_get-get_or, get_or_from_slice_get, slice_get_within}
@@ -9,7 +9,7 @@ use Rattle.proto_names.specs.declared.signature.Signature.{Signature}
 use Rattle.proto_names.specs.declared.sets.PartySet.{PartySet}
 use Rattle.proto_names.specs.declared.instance.Instance.{Instance}
 use Rattle.session_rules.specs.States.{State}
-use Rattle.session_rules.specs.Facts.{IsSameLater}
+use Rattle.session_rules.specs.Facts.{IsSameLater, IsLater}
 use Rattle.session_rules.proofs.Readiness.{ready_is}
 use Rattle.session_rules.proofs.Keeps.{histories_keep}
 use Rattle.session_rules.proofs.Grounds.{histories_ground}
@@ -86,22 +86,40 @@ same_shares w seeds key other i now j same polys =
     ∙ ap (λ (z : ℕ). share_rows w seeds now.signature z i.set.bits told j) (sym same.id)
     ∙ ap (λ (z : PartySet). share_rows w seeds now.signature now.id z.bits told j) (sym same.set)
 
+-- an instance that is issued is there later under its number
+pub record FoundLater (t : State) (id : ℕ) (i : Instance) : Type 0 where
+  pub now : Instance
+  pub there : instance t.instances id ≡ Some now
+  pub same : IsSameLater i now
+
+pub found_later : (s t : State) (id : ℕ) (i : Instance) → IsLater s t → instance s.instances id ≡ Some i → FoundLater t id i
+found_later s t id i later issued =
+    let place = id - 1 in
+    let here = placed s.instances id i issued in
+    let below : place < length s.instances = slice_get_within s.instances place i here in
+    let at = get_or_from_slice_get s.instances place i i here in
+    let longer = later.issued in
+    let now = get_or t.instances place i in
+    let there : slice_get t.instances place ≡ Some now = slice_get-get_or t.instances place i (omega arith) in
+    record {
+      now = now;
+      there = numbered_there s.instances t.instances id i now issued there;
+      same = subst (λ (z : Instance). IsSameLater z now) at (later.same place i below);
+    }
+
 pub issued_ones_stay : IssuedOnesStay
 issued_ones_stay w seeds s t id i y issued alive =
     let place = id - 1 in
     let here = placed s.instances id i issued in
     let below : place < length s.instances = slice_get_within s.instances place i here in
     let at = get_or_from_slice_get s.instances place i i here in
-    let longer = y.later.issued in
-    let now = get_or t.instances place i in
-    let same : IsSameLater i now = subst (λ (z : Instance). IsSameLater z now) at (y.later.same place i below) in
-    let there : slice_get t.instances place ≡ Some now = slice_get-get_or t.instances place i (omega arith) in
+    let x = found_later s t id i y.later issued in
     let polys = polys_stay w seeds s t i y.kept (keyed w s y.grounded) y.kept_later y.later (place, below, at) alive
-    ∙ ap (λ (z : Signature). polys_of w seeds (key_in w seeds t.instances) z) (sym same.signature) in (
-      now,
-      numbered_there s.instances t.instances id i now issued there,
+    ∙ ap (λ (z : Signature). polys_of w seeds (key_in w seeds t.instances) z) (sym x.same.signature) in (
+      x.now,
+      x.there,
       record {
         polys = polys;
-        shares = λ j. same_shares w seeds (key_in w seeds s.instances) (key_in w seeds t.instances) i now j same polys;
+        shares = λ j. same_shares w seeds (key_in w seeds s.instances) (key_in w seeds t.instances) i x.now j x.same polys;
       },
     )

@@ -12,3 +12,4 @@ pub mod Answered
 pub mod Deeds
 pub mod Calls
 pub mod Constancy
+pub mod Turns

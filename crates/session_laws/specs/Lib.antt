@@ -1,3 +1,4 @@
 pub mod Beginnings
 pub mod Constancy
 pub mod Orders
+pub mod Turns

@@ -4,6 +4,7 @@ ghost use Rattle.session_spec.specs.Laws.{OpeningIsHonest, CallsKeepHonest, Shar
 ghost use Rattle.session_laws.specs.Beginnings.{OpeningStands};
 ghost use Rattle.session_laws.specs.Constancy.{HistoriesLeadOn, InputsStay, IssuedOnesStay, KeyStays, ReadyOnesStay};
 ghost use Rattle.session_laws.specs.Orders.{OrdersAreOne, RowsAreTotals};
+ghost use Rattle.session_laws.specs.Turns.{ContentStandsOn};
 
 /// The store is honest at first, and what the other laws ask for is met.
 pub fn beginnings()
@@ -25,6 +26,11 @@ pub fn longer_histories()
     ensures inputs { InputsStay }
     ensures ready { ReadyOnesStay }
     ensures issued { IssuedOnesStay }
+{}
+
+/// A share, an input and an output that are those of an honest party by what a caller has seen are so when its turn comes.
+pub fn turns()
+    ensures content { ContentStandsOn }
 {}
 
 /// Sums are the totals of the shares row by row, and so the same in whichever order shares are counted.
