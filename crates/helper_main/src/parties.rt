@@ -54,7 +54,8 @@ fn push_values(
 /// The values of all inputs that party p owns.
 fn values_of(alloc: Global, script: &Script, p: u32) -> Result<Values, AllocError>
     requires accepted { IsAccepted (asked script.now) }
-    ensures { IfOk result (λ values. HasOwn (asked script.now) p (length script.now.circuits) 0 values) }
+    ensures { IfOk result (λ values. HasOwn (asked script.now) p (length script.now.circuits) 0
+        values) }
 {
     let mut values = Values::new(alloc);
     'circuits: for c in 0..script.circuits.len() as u32 {
@@ -93,8 +94,10 @@ pub(crate) fn parties(
     requires ring { ring.now.params ≡ script.now.params }
     requires roll { roll.now.master ≡ script.now.master }
     requires accepted { IsAccepted (asked script.now) }
-    ensures numbers { IfOk result (λ ps. map number_of ps.items ≡ range_with_len 1 script.now.params.parties) }
-    ensures parties { IfOk result (λ ps. All (IsPartyOf script.now.params (asked script.now)) ps.items) }
+    ensures numbers { IfOk result (λ ps. map number_of ps.items
+        ≡ range_with_len 1 script.now.params.parties) }
+    ensures parties { IfOk result (λ ps. All (IsPartyOf script.now.params (asked script.now))
+        ps.items) }
 {
     let mut parties = Vec::new(alloc);
     'parties: for before in 0..ring.params().parties() as u32 {

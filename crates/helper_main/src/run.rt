@@ -28,9 +28,13 @@ pub(crate) fn put<K: Sink>(sink: &mut K, text: &[u8]) -> bool
 /// Answers the bytes of a script that was read whole.
 fn answer<K: Sink>(alloc: Global, work: Work, bytes: &[u8], sink: &mut K) -> Status
     requires { length bytes.now ≤ most_bytes }
-    ensures done { result ≡ Status.Done → (is_done work (script bytes.now) ≡ true) × Appends (K.taken sink.old) (K.taken sink.new) (owed work (script bytes.now)) }
-    ensures script { result ≡ Status.Script → (is_done work (script bytes.now) ≡ false) × Appends (K.taken sink.old) (K.taken sink.new) (owed work (script bytes.now)) }
-    ensures write { result ≡ Status.Write → WritesPart (K.taken sink.old) (K.taken sink.new) (owed work (script bytes.now)) × HasFault (K.faults sink.old) (K.faults sink.new) }
+    ensures done { result ≡ Status.Done → (is_done work (script bytes.now) ≡ true)
+        × Appends (K.taken sink.old) (K.taken sink.new) (owed work (script bytes.now)) }
+    ensures script { result ≡ Status.Script → (is_done work (script bytes.now) ≡ false)
+        × Appends (K.taken sink.old) (K.taken sink.new) (owed work (script bytes.now)) }
+    ensures write { result ≡ Status.Write
+        → WritesPart (K.taken sink.old) (K.taken sink.new) (owed work (script bytes.now))
+        × HasFault (K.faults sink.old) (K.faults sink.new) }
     ensures memory { result ≡ Status.Memory → K.taken sink.new ≡ K.taken sink.old }
     ensures others { (result ≡ Status.Usage → ⊥) × (result ≡ Status.Read → ⊥) }
     ensures no_write_fault { (result ≡ Status.Write → ⊥) → K.faults sink.new ≡ K.faults sink.old }
@@ -51,7 +55,8 @@ fn answer<K: Sink>(alloc: Global, work: Work, bytes: &[u8], sink: &mut K) -> Sta
 
 /// Reads a script to its end, does the work with it and writes what is owed.
 fn serve<S: Source, K: Sink>(alloc: Global, work: Work, source: &mut S, sink: &mut K) -> Status
-    ensures serves { Serves work result (S.left source.old) (S.left source.new) (K.taken sink.old) (K.taken sink.new) }
+    ensures serves { Serves work result (S.left source.old) (S.left source.new) (K.taken sink.old)
+        (K.taken sink.new) }
     ensures read { result ≡ Status.Read → HasFault (S.faults source.old) (S.faults source.new) }
     ensures no_read_fault { (result ≡ Status.Read → ⊥) → S.faults source.new ≡ S.faults source.old }
     ensures write { result ≡ Status.Write → HasFault (K.faults sink.old) (K.faults sink.new) }
@@ -80,9 +85,14 @@ fn serve<S: Source, K: Sink>(alloc: Global, work: Work, source: &mut S, sink: &m
 /// `specs/Owed.antt` says what each status means for the bytes. A refused script is answered by one
 /// line, and more than 1,048,576 bytes by another.
 pub fn run_serial<S: Source, K: Sink>(alloc: Global, source: &mut S, sink: &mut K) -> Status
-    ensures headline { result ≡ Status.Done → HasHeadline (S.left source.old) (S.left source.new) (K.taken sink.old) (K.taken sink.new) }
-    ensures serves { Serves Work.Run result (S.left source.old) (S.left source.new) (K.taken sink.old) (K.taken sink.new) }
-    ensures complete { HoldsScript Work.Run (S.left source.old) → (HasFault (S.faults source.old) (S.faults source.new) → ⊥) → (HasFault (K.faults sink.old) (K.faults sink.new) → ⊥) → IsDoneOr result }
+    ensures headline { result ≡ Status.Done
+        → HasHeadline (S.left source.old) (S.left source.new) (K.taken sink.old)
+        (K.taken sink.new) }
+    ensures serves { Serves Work.Run result (S.left source.old) (S.left source.new)
+        (K.taken sink.old) (K.taken sink.new) }
+    ensures complete { HoldsScript Work.Run (S.left source.old)
+        → (HasFault (S.faults source.old) (S.faults source.new) → ⊥)
+        → (HasFault (K.faults sink.old) (K.faults sink.new) → ⊥) → IsDoneOr result }
     ensures read { result ≡ Status.Read → HasFault (S.faults source.old) (S.faults source.new) }
     ensures no_read_fault { (result ≡ Status.Read → ⊥) → S.faults source.new ≡ S.faults source.old }
     ensures write { result ≡ Status.Write → HasFault (K.faults sink.old) (K.faults sink.new) }
@@ -97,8 +107,11 @@ pub fn run_serial<S: Source, K: Sink>(alloc: Global, source: &mut S, sink: &mut 
 ///
 /// The statuses are those of `run_serial`, with that text in place of the report.
 pub fn run_check<S: Source, K: Sink>(alloc: Global, source: &mut S, sink: &mut K) -> Status
-    ensures serves { Serves Work.Check result (S.left source.old) (S.left source.new) (K.taken sink.old) (K.taken sink.new) }
-    ensures complete { HoldsScript Work.Check (S.left source.old) → (HasFault (S.faults source.old) (S.faults source.new) → ⊥) → (HasFault (K.faults sink.old) (K.faults sink.new) → ⊥) → IsDoneOr result }
+    ensures serves { Serves Work.Check result (S.left source.old) (S.left source.new)
+        (K.taken sink.old) (K.taken sink.new) }
+    ensures complete { HoldsScript Work.Check (S.left source.old)
+        → (HasFault (S.faults source.old) (S.faults source.new) → ⊥)
+        → (HasFault (K.faults sink.old) (K.faults sink.new) → ⊥) → IsDoneOr result }
     ensures read { result ≡ Status.Read → HasFault (S.faults source.old) (S.faults source.new) }
     ensures no_read_fault { (result ≡ Status.Read → ⊥) → S.faults source.new ≡ S.faults source.old }
     ensures write { result ≡ Status.Write → HasFault (K.faults sink.old) (K.faults sink.new) }

@@ -47,10 +47,18 @@ pub fn run_words<S: Source, K: Sink>(
     source: &mut S,
     sink: &mut K,
 ) -> Status
-    ensures headline { map string_bytes words.now ≡ words_of Work.Run → result ≡ Status.Done → HasHeadline (S.left source.old) (S.left source.new) (K.taken sink.old) (K.taken sink.new) }
-    ensures serves { (work : Work) → map string_bytes words.now ≡ words_of work → Serves work result (S.left source.old) (S.left source.new) (K.taken sink.old) (K.taken sink.new) }
-    ensures complete { (work : Work) → map string_bytes words.now ≡ words_of work → HoldsScript work (S.left source.old) → (HasFault (S.faults source.old) (S.faults source.new) → ⊥) → (HasFault (K.faults sink.old) (K.faults sink.new) → ⊥) → IsDoneOr result }
-    ensures usage { ((work : Work) → map string_bytes words.now ≡ words_of work → ⊥) → Declines result (K.taken sink.old) (K.taken sink.new) × (source.new ≡ source.old) }
+    ensures headline { map string_bytes words.now ≡ words_of Work.Run → result ≡ Status.Done
+        → HasHeadline (S.left source.old) (S.left source.new) (K.taken sink.old)
+        (K.taken sink.new) }
+    ensures serves { (work : Work) → map string_bytes words.now ≡ words_of work
+        → Serves work result (S.left source.old) (S.left source.new) (K.taken sink.old)
+        (K.taken sink.new) }
+    ensures complete { (work : Work) → map string_bytes words.now ≡ words_of work
+        → HoldsScript work (S.left source.old)
+        → (HasFault (S.faults source.old) (S.faults source.new) → ⊥)
+        → (HasFault (K.faults sink.old) (K.faults sink.new) → ⊥) → IsDoneOr result }
+    ensures usage { ((work : Work) → map string_bytes words.now ≡ words_of work → ⊥)
+        → Declines result (K.taken sink.old) (K.taken sink.new) × (source.new ≡ source.old) }
     ensures read { result ≡ Status.Read → HasFault (S.faults source.old) (S.faults source.new) }
     ensures no_read_fault { (result ≡ Status.Read → ⊥) → S.faults source.new ≡ S.faults source.old }
     ensures write { result ≡ Status.Write → HasFault (K.faults sink.old) (K.faults sink.new) }

@@ -22,7 +22,8 @@ fn share<R: Roll, P: Party>(
     requires party { Acts P.Party (known session.old) party.now }
     ensures about { about session.new ≡ about session.old }
     ensures done { OnOk result (Did (shares (P.number party.now) id ∷ []) session.old session.new) }
-    ensures stopped { IfErr result (BrokeOff (shares (P.number party.now) id ∷ []) session.old session.new) }
+    ensures stopped { IfErr result (BrokeOff (shares (P.number party.now) id ∷ []) session.old
+        session.new) }
 {
     let briefing = session.brief(0, id)?;
     match &briefing.brief {
@@ -46,8 +47,10 @@ fn share_all<R: Roll, P: Party>(
     requires ring { ring.now.params ≡ (known session.old).params }
     requires party { Acts P.Party (known session.old) party.now }
     ensures about { about session.new ≡ about session.old }
-    ensures done { OnOk result (Did (map (shares (P.number party.now)) ids.now) session.old session.new) }
-    ensures stopped { IfErr result (BrokeOff (map (shares (P.number party.now)) ids.now) session.old session.new) }
+    ensures done { OnOk result (Did (map (shares (P.number party.now)) ids.now) session.old
+        session.new) }
+    ensures stopped { IfErr result (BrokeOff (map (shares (P.number party.now)) ids.now) session.old
+        session.new) }
 {
     'ids: for id in ids {
         share(alloc, session, ring, party, *id)?;
@@ -90,7 +93,8 @@ pub(crate) fn send<R: Roll, P: Party>(
     requires party { Acts P.Party (known session.old) party.now }
     ensures about { about session.new ≡ about session.old }
     ensures done { OnOk result (Did (sends (P.number party.now) ∷ []) session.old session.new) }
-    ensures stopped { IfErr result (BrokeOff (sends (P.number party.now) ∷ []) session.old session.new) }
+    ensures stopped { IfErr result (BrokeOff (sends (P.number party.now) ∷ []) session.old
+        session.new) }
 {
     let listing = session.pending(alloc, 0, party.number())?;
     if let Reply::List { ids, inputs } = &listing.reply {

@@ -54,7 +54,8 @@ fn round<R: Roll, P: Party>(
     requires parties { AreParties P.Party (known session.old) parties.now }
     ensures about { about session.new ≡ about session.old }
     ensures done { OnOk result (Did (round_tasks (state_of session.old)) session.old session.new) }
-    ensures stopped { IfErr result (BrokeOff (round_tasks (state_of session.old)) session.old session.new) }
+    ensures stopped { IfErr result (BrokeOff (round_tasks (state_of session.old)) session.old
+        session.new) }
 {
     send_by_all(alloc, session, ring, parties)?;
     work_off(alloc, session, ring)?;
@@ -80,7 +81,8 @@ pub fn settle<R: Roll, P: Party>(
     ensures about { about session.new ≡ about session.old }
     ensures done { OnOk result (Settled session.old session.new) }
     ensures none_opened { OnOk result (NoneOpened (state_of session.new)) }
-    ensures none_ready { OnOk result (next_ready (rules_for session.new) (state_of session.new) ≡ None) }
+    ensures none_ready { OnOk result (next_ready (rules_for session.new) (state_of session.new)
+        ≡ None) }
     ensures answered { OnOk result (CanSettle (rules_for session.old) (state_of session.old)
         → is_session_settled (state_of session.new) ≡ true) }
     ensures stopped { IfErr result (StoppedSettling session.old session.new) }

@@ -99,7 +99,10 @@ fn push_verdict(
     requires circuit { first_fault params.now.n params.now.t params.now.parties circuit.now ≡ None }
     requires count { length values.now ≡ length (owners circuit.now) }
     requires values { All (IsPoly params.now.t params.now.n) values.now }
-    ensures { OnOk result (text.new.items ≡ text.old.items ++ verdict_lines (numbers_of params.now) circuit.now (plain_value params.now.n params.now.t values.now circuit.now) (first_over (numbers_of params.now) circuit.now)) }
+    ensures { OnOk result (text.new.items
+        ≡ text.old.items ++ verdict_lines (numbers_of params.now) circuit.now
+        (plain_value params.now.n params.now.t values.now circuit.now)
+        (first_over (numbers_of params.now) circuit.now)) }
 {
     match admit(params, circuit, bounds) {
         Ok(bound) => {
@@ -120,7 +123,8 @@ fn push_verdict(
 #[tactic(auto, unfolding(crate::specs::Checking::circuit_check))]
 fn push_circuit(text: &mut Vec<u8>, params: &Params, named: &NamedCircuit) -> Result<(), AllocError>
     requires { IsNamed (frame_of params.now) named.now }
-    ensures { OnOk result (text.new.items ≡ text.old.items ++ circuit_check (numbers_of params.now) named.now) }
+    ensures { OnOk result (text.new.items
+        ≡ text.old.items ++ circuit_check (numbers_of params.now) named.now) }
 {
     text.extend_from_slice(b"circuit ")?;
     text.extend_from_slice(named.name())?;
@@ -134,7 +138,9 @@ fn push_circuit(text: &mut Vec<u8>, params: &Params, named: &NamedCircuit) -> Re
 #[tactic(auto, using(crate::proofs::Checked::circuits))]
 fn push_circuits(text: &mut Vec<u8>, script: &Script) -> Result<(), AllocError>
     requires { AreNamed (asked script.now) }
-    ensures { OnOk result (text.new.items ≡ text.old.items ++ flat_map (circuit_check (bounding (asked script.now))) script.now.circuits) }
+    ensures { OnOk result (text.new.items
+        ≡ text.old.items ++ flat_map (circuit_check (bounding (asked script.now)))
+        script.now.circuits) }
 {
     'circuits: for named in script.circuits.as_slice() {
         push_circuit(text, &script.params, named)?;

@@ -9,7 +9,8 @@ use sha2::{Digest, Sha256};
 
 // Adds a polynomial's bytes to the message.
 fn hash_poly(hasher: &mut Sha256, poly: &Poly)
-    ensures { (m : List ℕ) → Holds256 hasher.old m → Holds256 hasher.new (m ++ poly_bytes poly.now) }
+    ensures { (m : List ℕ) → Holds256 hasher.old m
+        → Holds256 hasher.new (m ++ poly_bytes poly.now) }
 {
     let coeffs = poly.coeffs();
     'coeffs: for coeff in coeffs {

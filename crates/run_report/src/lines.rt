@@ -52,7 +52,8 @@ pub(crate) fn push_place(text: &mut Vec<u8>, place: Place) -> Result<(), AllocEr
 // The line `circuit NAME refused PLACE bound B limit L`.
 #[tactic(auto, unfolding(crate::specs::Reports::refused_line))]
 fn made_refused_line(alloc: Global, name: &[u8], over: Over) -> Result<Vec<u8>, AllocError>
-    ensures { IfOk result (λ line. line.items ≡ refused_line name.now over.place over.bound over.limit) }
+    ensures { IfOk result (λ line. line.items
+        ≡ refused_line name.now over.place over.bound over.limit) }
 {
     let mut line = Vec::from_slice(alloc, b"circuit ")?;
     line.extend_from_slice(name)?;
@@ -97,7 +98,8 @@ pub fn output_line(text: &mut Vec<u8>, name: &[u8], output: &Ciphertext) -> Resu
 
 /// Puts the line of a refused circuit behind a text: its name, and the place whose bound is too large.
 pub fn refused_line(text: &mut Vec<u8>, name: &[u8], over: Over) -> Result<(), AllocError>
-    ensures ok { OnOk result (text.new.items ≡ text.old.items ++ refused_line name.now over.place over.bound over.limit) }
+    ensures ok { OnOk result (text.new.items
+        ≡ text.old.items ++ refused_line name.now over.place over.bound over.limit) }
     ensures err { OnErr result (text.new.items ≡ text.old.items) }
 {
     let line = made_refused_line(*text.allocator(), name, over)?;

@@ -33,7 +33,8 @@ fn push_number(text: &mut Vec<u8>, number: u64) -> Result<(), AllocError>
 
 // Puts a parameter that broke its rule behind a text, with its value.
 fn push_params(text: &mut Vec<u8>, field: Field, value: u64) -> Result<(), AllocError>
-    ensures { OnOk result (text.new.items ≡ text.old.items ++ codes "params " ++ field_name field ++ codes " " ++ decimal value) }
+    ensures { OnOk result (text.new.items
+        ≡ text.old.items ++ codes "params " ++ field_name field ++ codes " " ++ decimal value) }
 {
     text.extend_from_slice(b"params ")?;
     push_field(text, field)?;

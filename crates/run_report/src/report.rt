@@ -35,7 +35,8 @@ fn push_circuit(
     number: u32,
 ) -> Result<(), AllocError>
     requires { number < length (state session.now.standing).circuits }
-    ensures { OnOk result (text.new.items ≡ text.old.items ++ told_circuit name.now session.now.standing number) }
+    ensures { OnOk result (text.new.items
+        ≡ text.old.items ++ told_circuit name.now session.now.standing number) }
 {
     match session.circuit_states()[number as usize] {
         CircuitState::Refused {
@@ -70,7 +71,9 @@ fn push_circuits(
     requires setting { setting session.now.standing ≡ setting_asked (asked script.now) }
     requires few { length script.now.circuits ≤ 64 }
     requires states { length (state session.now.standing).circuits ≡ length script.now.circuits }
-    ensures { OnOk result (text.new.items ≡ text.old.items ++ flat_map (circuit_text (asked script.now) (state session.now.standing)) (places (asked script.now))) }
+    ensures { OnOk result (text.new.items
+        ≡ text.old.items ++ flat_map (circuit_text (asked script.now) (state session.now.standing))
+        (places (asked script.now))) }
 {
     'circuits: for number in 0..script.circuits.len() as u32 {
         push_circuit(text, name(script, number), session, number)?;
@@ -87,7 +90,9 @@ fn push_output(
     number: u32,
 ) -> Result<(), AllocError>
     requires { number < length (state session.now.standing).circuits }
-    ensures { OnOk result (text.new.items ≡ text.old.items ++ told_output name.now session.now.standing session.now.roll.master number) }
+    ensures { OnOk result (text.new.items
+        ≡ text.old.items ++ told_output name.now session.now.standing session.now.roll.master
+        number) }
 {
     match session.output(number) {
         Some(output) => output_line(text, name, output),
@@ -106,7 +111,9 @@ fn push_outputs(
     requires roll { session.now.roll.master ≡ script.now.master }
     requires few { length script.now.circuits ≤ 64 }
     requires states { length (state session.now.standing).circuits ≡ length script.now.circuits }
-    ensures { OnOk result (text.new.items ≡ text.old.items ++ flat_map (output_text (asked script.now) (state session.now.standing)) (places (asked script.now))) }
+    ensures { OnOk result (text.new.items
+        ≡ text.old.items ++ flat_map (output_text (asked script.now) (state session.now.standing))
+        (places (asked script.now))) }
 {
     'outputs: for number in 0..script.circuits.len() as u32 {
         push_output(text, name(script, number), session, number)?;
@@ -117,8 +124,10 @@ fn push_outputs(
 // The digest of the sums of an instance that is complete; of another nothing is printed.
 #[tactic(auto, unfolding(crate::specs::Told::told_digest, instance_table::specs::Tables::stands))]
 fn digest(session: &Session<SeedRoll>, instance: &Instance) -> [u8; 64]
-    requires { instance_at (state session.now.standing).instances instance.now.id ≡ Some instance.now }
-    ensures { instance.now.stage ≡ Complete → result ≡ told_digest session.now.standing session.now.roll.master instance.now }
+    requires { instance_at (state session.now.standing).instances instance.now.id
+        ≡ Some instance.now }
+    ensures { instance.now.stage ≡ Complete → result
+        ≡ told_digest session.now.standing session.now.roll.master instance.now }
 {
     match instance.stage {
         Stage::Opened | Stage::Void { by: _ } => [0; 64],
@@ -135,8 +144,11 @@ fn push_instance(
     session: &Session<SeedRoll>,
     instance: &Instance,
 ) -> Result<(), AllocError>
-    requires { instance_at (state session.now.standing).instances instance.now.id ≡ Some instance.now }
-    ensures { OnOk result (text.new.items ≡ text.old.items ++ told_instance session.now.standing session.now.roll.master instance.now) }
+    requires { instance_at (state session.now.standing).instances instance.now.id
+        ≡ Some instance.now }
+    ensures { OnOk result (text.new.items
+        ≡ text.old.items ++ told_instance session.now.standing session.now.roll.master
+        instance.now) }
 {
     instance_line(text, instance, &digest(session, instance))
 }
@@ -145,7 +157,9 @@ fn push_instance(
 #[tactic(auto, using(crate::proofs::Sections::instances))]
 fn push_instances(text: &mut Vec<u8>, session: &Session<SeedRoll>) -> Result<(), AllocError>
     requires { Numbered (state session.now.standing).instances }
-    ensures { OnOk result (text.new.items ≡ text.old.items ++ flat_map (told_instance session.now.standing session.now.roll.master) (state session.now.standing).instances) }
+    ensures { OnOk result (text.new.items
+        ≡ text.old.items ++ flat_map (told_instance session.now.standing session.now.roll.master)
+        (state session.now.standing).instances) }
 {
     'instances: for instance in session.instances() {
         push_instance(text, session, instance)?;
@@ -155,7 +169,8 @@ fn push_instances(text: &mut Vec<u8>, session: &Session<SeedRoll>) -> Result<(),
 
 // Puts the lines of all entries of the log behind a text.
 fn push_events(text: &mut Vec<u8>, session: &Session<SeedRoll>) -> Result<(), AllocError>
-    ensures { OnOk result (text.new.items ≡ text.old.items ++ flat_map event_line session.now.log.items) }
+    ensures { OnOk result (text.new.items
+        ≡ text.old.items ++ flat_map event_line session.now.log.items) }
 {
     event_lines(text, session.log())
 }

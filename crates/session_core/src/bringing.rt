@@ -22,7 +22,8 @@ impl<R: Roll> Session<R> {
         requires share { BringsShareTo (known self.old) (state_of self.old) share.now }
         ensures about { about self.new ≡ about self.old }
         ensures made { IfOk result (Made self.old self.new caller (brings share.now)) }
-        ensures store { OnOk result (store_of self.new ≡ made_store self.old caller (brings share.now) (share_brought share.now.rows)) }
+        ensures store { OnOk result (store_of self.new
+            ≡ made_store self.old caller (brings share.now) (share_brought share.now.rows)) }
         ensures stopped { OnErr result (Stopped self.old self.new) }
         ensures spent { (result ≡ Err Spent) ↔ IsSpent self.old }
         ensures free { OnlyFor reply.Completed self.old result caller (brings share.now) }
@@ -55,7 +56,8 @@ impl<R: Roll> Session<R> {
         requires ct { BringsInputTo (known self.old) (state_of self.old) circuit input ct }
         ensures about { about self.new ≡ about self.old }
         ensures made { IfOk result (Made self.old self.new caller (call.Input circuit input)) }
-        ensures store { OnOk result (store_of self.new ≡ made_store self.old caller (call.Input circuit input) (cipher_brought ct)) }
+        ensures store { OnOk result (store_of self.new
+            ≡ made_store self.old caller (call.Input circuit input) (cipher_brought ct)) }
         ensures stopped { OnErr result (Stopped self.old self.new) }
         ensures spent { (result ≡ Err Spent) ↔ IsSpent self.old }
         ensures free { OnlyFor reply.Given self.old result caller (call.Input circuit input) }

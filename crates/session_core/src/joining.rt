@@ -18,7 +18,8 @@ impl<R: Roll> Session<R> {
         requires party { IsParty self.old.standing.params.parties p }
         ensures about { about self.new ≡ about self.old }
         ensures made { IfOk result (Made self.old self.new caller (call.Join p)) }
-        ensures store { OnOk result (store_of self.new ≡ made_store self.old caller (call.Join p) nothing_brought) }
+        ensures store { OnOk result (store_of self.new
+            ≡ made_store self.old caller (call.Join p) nothing_brought) }
         ensures stopped { OnErr result (Stopped self.old self.new) }
         ensures spent { (result ≡ Err Spent) ↔ IsSpent self.old }
         ensures free { OnlyFor reply.Joined self.old result caller (call.Join p) }

@@ -116,7 +116,8 @@ impl<R: Roll> Session<R> {
     /// The output of a circuit; none exactly where it is neither evaluated nor answered. Where the roll tells, it is
     /// the ciphertext that the circuit's nodes make of the encryptions of its values.
     pub fn output(&self, circuit: u32) -> Option<&Ciphertext>
-        ensures value { IfSome result (λ output. held_output (store_of self.now) circuit ≡ Some output.now) }
+        ensures value { IfSome result (λ output. held_output (store_of self.now) circuit
+            ≡ Some output.now) }
         ensures settled { IsSome result ↔ IsSettledAt (state_of self.now) circuit }
         ensures honest { IfSome result (λ output. At (IsHonestOutput circuit) self.now output.now) }
     {
@@ -125,7 +126,8 @@ impl<R: Roll> Session<R> {
 
     /// The value of a circuit; none exactly where it isn't answered. Where the roll tells, it is the plain value.
     pub fn answer(&self, circuit: u32) -> Option<&Plain>
-        ensures value { IfSome result (λ answer. held_answer (store_of self.now) circuit ≡ Some answer.now) }
+        ensures value { IfSome result (λ answer. held_answer (store_of self.now) circuit
+            ≡ Some answer.now) }
         ensures answered { IsSome result ↔ IsAnsweredAt (state_of self.now) circuit }
         ensures plain { IfSome result (λ answer. At (IsPlainAnswer circuit) self.now answer.now) }
     {

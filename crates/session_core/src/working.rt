@@ -48,7 +48,8 @@ impl<R: Roll> Session<R> {
         requires ct { BringsOutputTo (known self.old) (state_of self.old) caller circuit ct }
         ensures about { about self.new ≡ about self.old }
         ensures made { IfOk result (Made self.old self.new caller (call.Finish circuit)) }
-        ensures store { OnOk result (store_of self.new ≡ made_store self.old caller (call.Finish circuit) (cipher_brought ct)) }
+        ensures store { OnOk result (store_of self.new
+            ≡ made_store self.old caller (call.Finish circuit) (cipher_brought ct)) }
         ensures stopped { OnErr result (Stopped self.old self.new) }
         ensures spent { (result ≡ Err Spent) ↔ IsSpent self.old }
         ensures free { OnlyFor reply.Finished self.old result caller (call.Finish circuit) }

@@ -47,7 +47,8 @@ fn with_row(alloc: Global, ring: &Ring, held: &Polys, rows: &Polys) -> Result<Po
     requires one_row { length rows.now ≡ 1 }
     requires left { All (IsPoly ring.now.params.q ring.now.params.n) held.now }
     requires right { All (IsPoly ring.now.params.q ring.now.params.n) rows.now }
-    ensures value { IfOk result (λ sums. sums ≡ rows_sum ring.now.params.q ring.now.params.n held.now rows.now) }
+    ensures value { IfOk result (λ sums. sums
+        ≡ rows_sum ring.now.params.q ring.now.params.n held.now rows.now) }
     ensures one_row { IfOk result (λ sums. length sums ≡ 1) }
     ensures fits { IfOk result (λ sums. All (IsPoly ring.now.params.q ring.now.params.n) sums) }
 {
@@ -67,9 +68,12 @@ impl Standing {
         instance: &Instance,
     ) -> Result<Polys, AllocError>
         requires fits { All (IsPoly self.now.params.q self.now.params.n) share.now.rows }
-        requires wanted { IsWanted (rules_of self.now) (state self.now) share.now.id share.now.party (length share.now.rows) instance.now }
+        requires wanted { IsWanted (rules_of self.now) (state self.now) share.now.id share.now.party
+            (length share.now.rows) instance.now }
         requires one_row { length share.now.rows ≡ 1 }
-        ensures value { IfOk result (λ sums. sums ≡ held_sums (with_rows (setting self.now) share.now.id share.now.rows (store self.now)) share.now.id) }
+        ensures value { IfOk result (λ sums. sums
+            ≡ held_sums (with_rows (setting self.now) share.now.id share.now.rows (store self.now))
+            share.now.id) }
         ensures one_row { IfOk result (λ sums. length sums ≡ 1) }
         ensures fits { IfOk result (λ sums. All (IsPoly self.now.params.q self.now.params.n) sums) }
     {
@@ -85,7 +89,10 @@ impl Standing {
         requires evaluated { circuit (state self.now).circuits c ≡ Evaluated }
         requires one_row { length sums.now ≡ 1 }
         requires fits { All (IsPoly self.now.params.q self.now.params.n) sums.now }
-        ensures value { IfOk result (λ value. value ≡ decryption self.now.params.q self.now.params.t (ring_sum self.now.params.q self.now.params.n (cipher_or (held_output (store self.now) c)).c0 (slice_index_or sums.now 0 []))) }
+        ensures value { IfOk result (λ value. value
+            ≡ decryption self.now.params.q self.now.params.t
+            (ring_sum self.now.params.q self.now.params.n
+            (cipher_or (held_output (store self.now) c)).c0 (slice_index_or sums.now 0 []))) }
         ensures fits { IfOk result (λ value. IsPoly self.now.params.t self.now.params.n value) }
     {
         match self.outputs.get(c as usize) {
@@ -96,11 +103,13 @@ impl Standing {
 
     /// What an instance gives, once these are its sums.
     fn made(&self, alloc: Global, instance: &Instance, sums: &Polys) -> Result<Made, AllocError>
-        requires decrypts { (c : ℕ) → instance.now.signature ≡ Dec c → circuit (state self.now).circuits c ≡ Evaluated }
+        requires decrypts { (c : ℕ) → instance.now.signature ≡ Dec c
+            → circuit (state self.now).circuits c ≡ Evaluated }
         requires asked { IsOfOne instance.now.signature }
         requires one_row { length sums.now ≡ 1 }
         requires fits { All (IsPoly self.now.params.q self.now.params.n) sums.now }
-        ensures made { IfOk result (IsMade self.now.params (setting self.now) (store self.now) sums.now instance.now) }
+        ensures made { IfOk result (IsMade self.now.params (setting self.now) (store self.now)
+            sums.now instance.now) }
     {
         match instance.signature {
             Signature::Pk => {
@@ -125,7 +134,8 @@ impl Standing {
         signature: Signature,
     ) -> Result<Vec<CircuitState>, AllocError>
         requires there { (c : ℕ) → signature ≡ Dec c → c < length (state self.now).circuits }
-        ensures { IfOk result (λ states. states.items ≡ answered_by signature (state self.now).circuits) }
+        ensures { IfOk result (λ states. states.items
+            ≡ answered_by signature (state self.now).circuits) }
     {
         let mut states = Vec::from_slice(alloc, self.states.as_slice())?;
         if let Signature::Dec(c) = signature {
@@ -138,11 +148,17 @@ impl Standing {
     fn take_key(&mut self, share: &Share, instance: &Instance, key: Arc<PublicKey>)
         requires fits { All (IsPoly self.old.params.q self.old.params.n) share.now.rows }
         requires kept { Kept (rules_of self.old) (state self.old) }
-        requires wanted { IsWanted (rules_of self.old) (state self.old) share.now.id share.now.party (length share.now.rows) instance.now }
+        requires wanted { IsWanted (rules_of self.old) (state self.old) share.now.id share.now.party
+            (length share.now.rows) instance.now }
         requires last { missing share.now.party instance.now ≡ 0 }
-        requires made { IsKey (setting self.old) (held_sums (with_rows (setting self.old) share.now.id share.now.rows (store self.old)) share.now.id) instance.now key.value }
-        ensures state { state self.new ≡ last_counted (state self.old) instance.now share.now.id share.now.party }
-        ensures store { store self.new ≡ with_answer (setting self.old) share.now.id instance.now.signature (with_rows (setting self.old) share.now.id share.now.rows (store self.old)) }
+        requires made { IsKey (setting self.old)
+            (held_sums (with_rows (setting self.old) share.now.id share.now.rows (store self.old))
+            share.now.id) instance.now key.value }
+        ensures state { state self.new
+            ≡ last_counted (state self.old) instance.now share.now.id share.now.party }
+        ensures store { store self.new ≡ with_answer (setting self.old) share.now.id
+            instance.now.signature (with_rows (setting self.old) share.now.id share.now.rows
+            (store self.old)) }
         ensures setting { setting self.new ≡ setting self.old }
         ensures params { self.new.params ≡ self.old.params }
         ensures spare { spare self.new.table ≡ spare self.old.table }
@@ -162,12 +178,19 @@ impl Standing {
     )
         requires fits { All (IsPoly self.old.params.q self.old.params.n) share.now.rows }
         requires kept { Kept (rules_of self.old) (state self.old) }
-        requires wanted { IsWanted (rules_of self.old) (state self.old) share.now.id share.now.party (length share.now.rows) instance.now }
+        requires wanted { IsWanted (rules_of self.old) (state self.old) share.now.id share.now.party
+            (length share.now.rows) instance.now }
         requires last { missing share.now.party instance.now ≡ 0 }
-        requires made { IsAnswer self.old.params (setting self.old) (store self.old) (held_sums (with_rows (setting self.old) share.now.id share.now.rows (store self.old)) share.now.id) instance.now circuit value }
-        requires states { states.items ≡ answered_by instance.now.signature (state self.old).circuits }
-        ensures state { state self.new ≡ last_counted (state self.old) instance.now share.now.id share.now.party }
-        ensures store { store self.new ≡ with_answer (setting self.old) share.now.id instance.now.signature (with_rows (setting self.old) share.now.id share.now.rows (store self.old)) }
+        requires made { IsAnswer self.old.params (setting self.old) (store self.old)
+            (held_sums (with_rows (setting self.old) share.now.id share.now.rows (store self.old))
+            share.now.id) instance.now circuit value }
+        requires states { states.items
+            ≡ answered_by instance.now.signature (state self.old).circuits }
+        ensures state { state self.new
+            ≡ last_counted (state self.old) instance.now share.now.id share.now.party }
+        ensures store { store self.new ≡ with_answer (setting self.old) share.now.id
+            instance.now.signature (with_rows (setting self.old) share.now.id share.now.rows
+            (store self.old)) }
         ensures setting { setting self.new ≡ setting self.old }
         ensures params { self.new.params ≡ self.old.params }
         ensures spare { spare self.new.table ≡ spare self.old.table }
@@ -181,12 +204,19 @@ impl Standing {
     fn take_in(&mut self, share: &Share, instance: &Instance, made: Made, states: Vec<CircuitState>)
         requires fits { All (IsPoly self.old.params.q self.old.params.n) share.now.rows }
         requires kept { Kept (rules_of self.old) (state self.old) }
-        requires wanted { IsWanted (rules_of self.old) (state self.old) share.now.id share.now.party (length share.now.rows) instance.now }
+        requires wanted { IsWanted (rules_of self.old) (state self.old) share.now.id share.now.party
+            (length share.now.rows) instance.now }
         requires last { missing share.now.party instance.now ≡ 0 }
-        requires made { IsMade self.old.params (setting self.old) (store self.old) (held_sums (with_rows (setting self.old) share.now.id share.now.rows (store self.old)) share.now.id) instance.now made }
-        requires states { states.items ≡ answered_by instance.now.signature (state self.old).circuits }
-        ensures state { state self.new ≡ last_counted (state self.old) instance.now share.now.id share.now.party }
-        ensures store { store self.new ≡ with_answer (setting self.old) share.now.id instance.now.signature (with_rows (setting self.old) share.now.id share.now.rows (store self.old)) }
+        requires made { IsMade self.old.params (setting self.old) (store self.old)
+            (held_sums (with_rows (setting self.old) share.now.id share.now.rows (store self.old))
+            share.now.id) instance.now made }
+        requires states { states.items
+            ≡ answered_by instance.now.signature (state self.old).circuits }
+        ensures state { state self.new
+            ≡ last_counted (state self.old) instance.now share.now.id share.now.party }
+        ensures store { store self.new ≡ with_answer (setting self.old) share.now.id
+            instance.now.signature (with_rows (setting self.old) share.now.id share.now.rows
+            (store self.old)) }
         ensures setting { setting self.new ≡ setting self.old }
         ensures params { self.new.params ≡ self.old.params }
         ensures spare { spare self.new.table ≡ spare self.old.table }
@@ -215,9 +245,11 @@ impl Standing {
         requires kept { Kept (rules_of self.old) (state self.old) }
         requires room { length issuing.steps.items ≤ spare self.old.table }
         requires few { length (state self.old).instances + length issuing.steps.items ≤ 2 ^ 30 }
-        requires planned { IsPlanned self.old.params (rules_of self.old) (state self.old) (store self.old).outputs issuing.steps.items }
+        requires planned { IsPlanned self.old.params (rules_of self.old) (state self.old)
+            (store self.old).outputs issuing.steps.items }
         ensures state { state self.new ≡ issue (rules_of self.old) (state self.old) }
-        ensures store { store self.new ≡ grown (setting self.old) (state self.new).instances (store self.old) }
+        ensures store { store self.new
+            ≡ grown (setting self.old) (state self.new).instances (store self.old) }
         ensures setting { setting self.new ≡ setting self.old }
         ensures params { self.new.params ≡ self.old.params }
     {
@@ -235,9 +267,13 @@ impl Standing {
         requires room { HasRoom self.now }
         requires kept { Kept (rules_of self.now) (state self.now) }
         requires grounded { Grounded (rules_of self.now) (state self.now) }
-        requires wanted { IsWanted (rules_of self.now) (state self.now) share.now.id share.now.party (length share.now.rows) instance.now }
-        requires states { states.now ≡ answered_by instance.now.signature (state self.now).circuits }
-        ensures planned { IfOk result (λ x. IsPlanned self.now.params (rules_of self.now) (last_counted (state self.now) instance.now share.now.id share.now.party) (store self.now).outputs x.steps.items) }
+        requires wanted { IsWanted (rules_of self.now) (state self.now) share.now.id share.now.party
+            (length share.now.rows) instance.now }
+        requires states { states.now ≡ answered_by instance.now.signature
+            (state self.now).circuits }
+        ensures planned { IfOk result (λ x. IsPlanned self.now.params (rules_of self.now)
+            (last_counted (state self.now) instance.now share.now.id share.now.party)
+            (store self.now).outputs x.steps.items) }
         ensures few { IfOk result (λ x. length x.steps.items ≤ most_moves (rules_of self.now)) }
     {
         let instances = self
@@ -269,10 +305,16 @@ impl Standing {
         requires room { HasRoom self.old }
         requires kept { Kept (rules_of self.old) (state self.old) }
         requires grounded { Grounded (rules_of self.old) (state self.old) }
-        requires wanted { IsWanted (rules_of self.old) (state self.old) share.now.id share.now.party (length share.now.rows) instance.now }
+        requires wanted { IsWanted (rules_of self.old) (state self.old) share.now.id share.now.party
+            (length share.now.rows) instance.now }
         requires last { missing share.now.party instance.now ≡ 0 }
-        ensures state { OnOk result (state self.new ≡ issue (rules_of self.old) (last_counted (state self.old) instance.now share.now.id share.now.party)) }
-        ensures store { OnOk result (store self.new ≡ grown (setting self.old) (state self.new).instances (with_answer (setting self.old) share.now.id instance.now.signature (with_rows (setting self.old) share.now.id share.now.rows (store self.old)))) }
+        ensures state { OnOk result (state self.new
+            ≡ issue (rules_of self.old) (last_counted (state self.old) instance.now share.now.id
+            share.now.party)) }
+        ensures store { OnOk result (store self.new
+            ≡ grown (setting self.old) (state self.new).instances
+            (with_answer (setting self.old) share.now.id instance.now.signature
+            (with_rows (setting self.old) share.now.id share.now.rows (store self.old)))) }
         ensures setting { setting self.new ≡ setting self.old }
         ensures params { self.new.params ≡ self.old.params }
         ensures unchanged { OnErr result (IsUnchanged self.old self.new) }

@@ -24,8 +24,10 @@ impl Standing {
     /// What the rules say to a caller that finishes a circuit.
     fn verdict_on_finish(&self, caller: u32, circuit: u32) -> Verdict
         ensures said { result ≡ finished self.now caller circuit }
-        ensures ends { is_nothing result.deed ≡ false → result ≡ does reply.Finished (Turns circuit Evaluated) }
-        ensures there { is_nothing result.deed ≡ false → circuit < length (state self.now).circuits }
+        ensures ends { is_nothing result.deed ≡ false → result
+            ≡ does reply.Finished (Turns circuit Evaluated) }
+        ensures there { is_nothing result.deed ≡ false → circuit
+            < length (state self.now).circuits }
         ensures plain { is_list result.reply ≡ false }
     {
         judge_finish(self.states.as_slice(), caller, circuit)
@@ -34,7 +36,8 @@ impl Standing {
     /// How far the circuits have come once one of them is evaluated.
     fn states_after(&self, alloc: Global, circuit: u32) -> Result<Vec<CircuitState>, AllocError>
         requires { circuit < length (state self.now).circuits }
-        ensures { IfOk result (λ states. states.items ≡ slice_set (state self.now).circuits circuit Evaluated) }
+        ensures { IfOk result (λ states. states.items
+            ≡ slice_set (state self.now).circuits circuit Evaluated) }
     {
         let mut states = Vec::from_slice(alloc, self.states.as_slice())?;
         states[circuit as usize] = CircuitState::Evaluated;
@@ -54,7 +57,9 @@ impl Standing {
         requires states { states.now ≡ slice_set (state self.now).circuits circuit Evaluated }
         requires room { HasRoom self.now }
         requires grounded { Grounded (rules_of self.now) (state self.now) }
-        ensures planned { IfOk result (λ x. IsPlanned self.now.params (rules_of self.now) (with_circuit (state self.now) circuit Evaluated) (with_output circuit ct.now (store self.now)).outputs x.steps.items) }
+        ensures planned { IfOk result (λ x. IsPlanned self.now.params (rules_of self.now)
+            (with_circuit (state self.now) circuit Evaluated)
+            (with_output circuit ct.now (store self.now)).outputs x.steps.items) }
         ensures few { IfOk result (λ x. length x.steps.items ≤ most_moves (rules_of self.now)) }
     {
         let instances = self.table.instances_copied(alloc)?;
@@ -102,8 +107,10 @@ impl Standing {
         requires grounded { Grounded (rules_of self.old) (state self.old) }
         ensures reply { IfOk result (λ r. r ≡ (finished self.old caller circuit).reply) }
         ensures plain { IfOk result (λ r. is_list r ≡ false) }
-        ensures state { OnOk result (state self.new ≡ state_then self.old (finished self.old caller circuit)) }
-        ensures store { OnOk result (store self.new ≡ store_then self.old (finished self.old caller circuit) (cipher_brought ct)) }
+        ensures state { OnOk result (state self.new
+            ≡ state_then self.old (finished self.old caller circuit)) }
+        ensures store { OnOk result (store self.new
+            ≡ store_then self.old (finished self.old caller circuit) (cipher_brought ct)) }
         ensures setting { setting self.new ≡ setting self.old }
         ensures params { self.new.params ≡ self.old.params }
         ensures unchanged { OnErr result (IsUnchanged self.old self.new) }

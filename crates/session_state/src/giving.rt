@@ -20,8 +20,10 @@ impl Standing {
     /// What the rules say to the encryption of an input.
     fn verdict_on_input(&self, circuit: u32, input: u32) -> Verdict
         ensures said { result ≡ inputted self.now circuit input }
-        ensures gives { is_nothing result.deed ≡ false → result ≡ does reply.Given (Gives circuit input) }
-        ensures wanted { is_nothing result.deed ≡ false → is_input (rules_of self.now) circuit input ≡ true }
+        ensures gives { is_nothing result.deed ≡ false → result
+            ≡ does reply.Given (Gives circuit input) }
+        ensures wanted { is_nothing result.deed ≡ false → is_input (rules_of self.now) circuit input
+            ≡ true }
         ensures plain { is_list result.reply ≡ false }
     {
         judge_input(
@@ -41,7 +43,9 @@ impl Standing {
         requires kept { Kept (rules_of self.old) (state self.old) }
         requires grounded { Grounded (rules_of self.old) (state self.old) }
         ensures state { state self.new ≡ changed (Gives circuit input) (state self.old) }
-        ensures store { store self.new ≡ with_deed (setting self.old) (Gives circuit input) (cipher_brought ct.value) (store self.old) }
+        ensures store { store self.new
+            ≡ with_deed (setting self.old) (Gives circuit input) (cipher_brought ct.value)
+            (store self.old) }
         ensures setting { setting self.new ≡ setting self.old }
         ensures params { self.new.params ≡ self.old.params }
     {
@@ -64,8 +68,10 @@ impl Standing {
         requires grounded { Grounded (rules_of self.old) (state self.old) }
         ensures reply { IfOk result (λ r. r ≡ (inputted self.old circuit input).reply) }
         ensures plain { IfOk result (λ r. is_list r ≡ false) }
-        ensures state { OnOk result (state self.new ≡ state_then self.old (inputted self.old circuit input)) }
-        ensures store { OnOk result (store self.new ≡ store_then self.old (inputted self.old circuit input) (cipher_brought ct)) }
+        ensures state { OnOk result (state self.new
+            ≡ state_then self.old (inputted self.old circuit input)) }
+        ensures store { OnOk result (store self.new
+            ≡ store_then self.old (inputted self.old circuit input) (cipher_brought ct)) }
         ensures setting { setting self.new ≡ setting self.old }
         ensures params { self.new.params ≡ self.old.params }
         ensures unchanged { OnErr result (IsUnchanged self.old self.new) }

@@ -61,8 +61,10 @@ fn output_of<'a>(
     made: Option<&'a Ciphertext>,
     c: u32,
 ) -> &'a Ciphertext
-    requires there { is_some (slice_index_or (with_made outputs.now at (option_copied made)) c None) ≡ true }
-    ensures { Some result.now ≡ slice_index_or (with_made outputs.now at (option_copied made.entry)) c None }
+    requires there { is_some (slice_index_or (with_made outputs.now at (option_copied made)) c None)
+        ≡ true }
+    ensures { Some result.now
+        ≡ slice_index_or (with_made outputs.now at (option_copied made.entry)) c None }
 {
     if let Some(output) = made {
         if at == c {
@@ -85,8 +87,11 @@ fn told(
     made: Option<&Ciphertext>,
     signature: Signature,
 ) -> Result<Polys, AllocError>
-    requires { (c : ℕ) → signature ≡ Dec c → HasCipher ring.now.params (slice_index_or (with_made outputs.now at (option_copied made)) c None) }
-    ensures { IfOk result (λ polys. polys ≡ polys_from (with_made outputs.now at (option_copied made.entry)) signature) }
+    requires { (c : ℕ) → signature ≡ Dec c
+        → HasCipher ring.now.params (slice_index_or (with_made outputs.now at (option_copied made))
+        c None) }
+    ensures { IfOk result (λ polys. polys
+        ≡ polys_from (with_made outputs.now at (option_copied made.entry)) signature) }
 {
     let mut polys = Polys::new(alloc);
     if let Signature::Dec(c) = signature {
@@ -108,10 +113,13 @@ fn planned(
     next: Move,
 ) -> Result<Step, AllocError>
     requires issues { IsIssue next }
-    requires output { (c : ℕ) → Decrypts next c → HasCipher ring.now.params (slice_index_or (with_made outputs.now at (option_copied made)) c None) }
+    requires output { (c : ℕ) → Decrypts next c
+        → HasCipher ring.now.params (slice_index_or (with_made outputs.now at (option_copied made))
+        c None) }
     ensures move_ { IfOk result (λ step. move_of step ≡ next) }
     ensures id { IfOk result (λ step. id_told step ≡ id) }
-    ensures polys { IfOk result (λ step. polys_told step ≡ polys_due (with_made outputs.now at (option_copied made.entry)) step) }
+    ensures polys { IfOk result (λ step. polys_told step
+        ≡ polys_due (with_made outputs.now at (option_copied made.entry)) step) }
     ensures fresh { IfOk result (IsFresh ring.now.params) }
 {
     match next {
@@ -160,8 +168,12 @@ pub(crate) fn plan(
     requires few { length states.now ≤ 64 }
     requires room { length instances.items + most_moves rules.now ≤ 2 ^ 30 }
     requires no_first_round { has_done Rlk1 instances.items ≡ false }
-    requires outputs { (c : ℕ) → circuit states.now c ≡ Evaluated → HasCipher ring.now.params (slice_index_or (with_made outputs.now at (option_copied made)) c None) }
-    ensures planned { IfOk result (λ x. IsPlanned ring.now.params rules.now (seen present.now.bits instances.items [] states.now) (with_made outputs.now at (option_copied made.entry)) x.steps.items) }
+    requires outputs { (c : ℕ) → circuit states.now c ≡ Evaluated
+        → HasCipher ring.now.params (slice_index_or (with_made outputs.now at (option_copied made))
+        c None) }
+    ensures planned { IfOk result (λ x. IsPlanned ring.now.params rules.now
+        (seen present.now.bits instances.items [] states.now)
+        (with_made outputs.now at (option_copied made.entry)) x.steps.items) }
     ensures few { IfOk result (λ x. length x.steps.items ≤ most_moves rules.now) }
 {
     let first = instances.len() as u32 + 1;
@@ -178,10 +190,13 @@ pub(crate) fn plan(
 pub(crate) fn carry_out(table: &mut Table, issuing: Issuing)
     requires room { length issuing.steps.items ≤ spare table.old }
     requires few { length table.old.instances.items + length issuing.steps.items ≤ 2 ^ 30 }
-    requires ids { map id_told issuing.steps.items ≡ range_with_len (length table.old.instances.items + 1) (length issuing.steps.items) }
+    requires ids { map id_told issuing.steps.items
+        ≡ range_with_len (length table.old.instances.items + 1) (length issuing.steps.items) }
     requires fresh { All (IsFresh table.old.params) issuing.steps.items }
-    ensures instances { table.new.instances.items ≡ fold instances_after table.old.instances.items (map move_of issuing.steps.items) }
-    ensures briefs { table.new.briefs.items ≡ table.old.briefs.items ++ map brief_of issuing.steps.items }
+    ensures instances { table.new.instances.items
+        ≡ fold instances_after table.old.instances.items (map move_of issuing.steps.items) }
+    ensures briefs { table.new.briefs.items
+        ≡ table.old.briefs.items ++ map brief_of issuing.steps.items }
     ensures sums { table.new.sums.items ≡ table.old.sums.items ++ map sums_of issuing.steps.items }
     ensures ring { table.new.params ≡ table.old.params }
 {

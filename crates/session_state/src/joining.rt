@@ -32,7 +32,9 @@ impl Standing {
     fn planned_among(&self, alloc: Global, present: &PartySet) -> Result<Issuing, AllocError>
         requires room { HasRoom self.now }
         requires grounded { Grounded (rules_of self.now) (state self.now) }
-        ensures planned { IfOk result (λ x. IsPlanned self.now.params (rules_of self.now) (record (state self.now) { present = present.now.bits }) (store self.now).outputs x.steps.items) }
+        ensures planned { IfOk result (λ x. IsPlanned self.now.params (rules_of self.now)
+            (record (state self.now) { present = present.now.bits }) (store self.now).outputs
+            x.steps.items) }
         ensures few { IfOk result (λ x. length x.steps.items ≤ most_moves (rules_of self.now)) }
     {
         let instances = self.table.instances_copied(alloc)?;
@@ -72,7 +74,8 @@ impl Standing {
         ensures reply { IfOk result (λ r. r ≡ (joined self.old p).reply) }
         ensures plain { IfOk result (λ r. is_list r ≡ false) }
         ensures state { OnOk result (state self.new ≡ state_then self.old (joined self.old p)) }
-        ensures store { OnOk result (store self.new ≡ store_then self.old (joined self.old p) nothing_brought) }
+        ensures store { OnOk result (store self.new
+            ≡ store_then self.old (joined self.old p) nothing_brought) }
         ensures setting { setting self.new ≡ setting self.old }
         ensures params { self.new.params ≡ self.old.params }
         ensures unchanged { OnErr result (IsUnchanged self.old self.new) }

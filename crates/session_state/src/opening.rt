@@ -19,7 +19,8 @@ use std::sync::Arc;
 /// The circuits, as far as the rules look at them.
 fn plans_of(alloc: Global, params: &Params, circuits: &Circuits) -> Result<PlanList, AllocError>
     requires { All (Keeps params.now) circuits.now }
-    ensures { IfOk result (λ plans. plans ≡ map (plan_by (numbers_of params.now)) (map nodes_of circuits.now)) }
+    ensures { IfOk result (λ plans. plans
+        ≡ map (plan_by (numbers_of params.now)) (map nodes_of circuits.now)) }
 {
     let mut plans = PlanList::new(alloc);
     'circuits: for place in 0..circuits.len() {
@@ -78,9 +79,12 @@ impl Standing {
         requires keep { All (Keeps ring.value.params) circuits }
         requires few { length circuits ≤ 64 }
         ensures params { IfOk result (λ st. st.params ≡ ring.value.params) }
-        ensures setting { IfOk result (λ st. setting st ≡ setting_by ring.value.params public circuits) }
-        ensures state { IfOk result (λ st. state st ≡ opening (rules_for (setting_by ring.value.params public circuits))) }
-        ensures store { IfOk result (λ st. store st ≡ empty (setting_by ring.value.params public circuits)) }
+        ensures setting { IfOk result (λ st. setting st
+            ≡ setting_by ring.value.params public circuits) }
+        ensures state { IfOk result (λ st. state st
+            ≡ opening (rules_for (setting_by ring.value.params public circuits))) }
+        ensures store { IfOk result (λ st. store st
+            ≡ empty (setting_by ring.value.params public circuits)) }
     {
         let params = *ring.params();
         let plans = plans_of(alloc, &params, &circuits)?;

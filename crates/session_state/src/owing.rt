@@ -31,9 +31,12 @@ impl Standing {
     /// that key, take memory.
     #[tactic(auto, unfolding(session_rules::specs::Steps::pending, session_rules::specs::Steps::owed_inputs, session_rules::specs::Steps::owed_of, session_rules::specs::Steps::lacks_input))]
     pub fn pending(&self, alloc: Global, p: u32) -> Result<Listing, AllocError>
-        ensures reply { IfOk result (λ l. l.reply ≡ pending_at (rules_of self.now) (state self.now) p) }
-        ensures key { IfOk result (λ l. shared_if l.key ≡ held_key (setting self.now) (store self.now) self.now.table.instances.items) }
-        ensures free { OnErr result (HandsOut (setting self.now) (store self.now) (state self.now) (pending_at (rules_of self.now) (state self.now) p)) }
+        ensures reply { IfOk result (λ l. l.reply
+            ≡ pending_at (rules_of self.now) (state self.now) p) }
+        ensures key { IfOk result (λ l. shared_if l.key
+            ≡ held_key (setting self.now) (store self.now) self.now.table.instances.items) }
+        ensures free { OnErr result (HandsOut (setting self.now) (store self.now) (state self.now)
+            (pending_at (rules_of self.now) (state self.now) p)) }
     {
         let key = pointer(&self.key)?;
         if !self.present.has(p) {
@@ -56,8 +59,11 @@ impl Standing {
     pub fn brief(&self, id: u32) -> Result<Briefing, AllocError>
         ensures reply { IfOk result (λ b. b.reply ≡ brief_at (state self.now) id) }
         ensures plain { IfOk result (λ b. is_list b.reply ≡ false) }
-        ensures told { IfOk result (λ b. IfSome b.brief (λ a. (i : Instance) → instance self.now.table.instances.items id ≡ Some i → IsBriefOf self.now.params (store self.now) i a.value)) }
-        ensures there { IfOk result (λ b. (i : Instance) → instance self.now.table.instances.items id ≡ Some i → IsLive i → b.brief ≡ None → ⊥) }
+        ensures told { IfOk result (λ b. IfSome b.brief (λ a. (i : Instance)
+            → instance self.now.table.instances.items id ≡ Some i
+            → IsBriefOf self.now.params (store self.now) i a.value)) }
+        ensures there { IfOk result (λ b. (i : Instance)
+            → instance self.now.table.instances.items id ≡ Some i → IsLive i → b.brief ≡ None → ⊥) }
         ensures stands { IfOk result (λ b. IfSome b.brief (λ a. b.reply ≡ brief_reply a.value)) }
         ensures free { OnErr result (is_brief (brief_at (state self.now) id) ≡ true) }
     {

@@ -90,7 +90,8 @@ impl Standing {
     /// The output of a circuit; none exactly where it is neither evaluated nor answered.
     pub fn output(&self, c: u32) -> Option<&Ciphertext>
         ensures value { IfSome result (λ output. held_output (store self.now) c ≡ Some output.now) }
-        ensures settled { IsSome result ↔ ((c < length (state self.now).circuits) × IsTrue (is_settled (circuit (state self.now).circuits c))) }
+        ensures settled { IsSome result ↔ ((c < length (state self.now).circuits) × IsTrue
+            (is_settled (circuit (state self.now).circuits c))) }
     {
         match self.states.get(c as usize) {
             Some(CircuitState::Evaluated | CircuitState::Answered) => self.outputs.get(c as usize),
@@ -101,7 +102,9 @@ impl Standing {
     /// The value of a circuit; none exactly where it isn't answered.
     pub fn answer(&self, c: u32) -> Option<&Plain>
         ensures value { IfSome result (λ answer. held_answer (store self.now) c ≡ Some answer.now) }
-        ensures answered { IsSome result ↔ ((c < length (state self.now).circuits) × (circuit (state self.now).circuits c ≡ Answered)) }
+        ensures answered { IsSome result
+            ↔ ((c < length (state self.now).circuits)
+            × (circuit (state self.now).circuits c ≡ Answered)) }
     {
         match self.states.get(c as usize) {
             Some(CircuitState::Answered) => self.answers.get(c as usize),

@@ -24,10 +24,14 @@ impl Standing {
     fn verdict_on_share(&self, share: &Share) -> Verdict
         requires few_rows { length share.now.rows < 2 ^ 32 }
         requires kept { Kept (rules_of self.now) (state self.now) }
-        ensures said { result ≡ delivered self.now share.now.id share.now.party (length share.now.rows) }
+        ensures said { result ≡ delivered self.now share.now.id share.now.party
+            (length share.now.rows) }
         ensures refused { counts_for result.deed ≡ None → is_nothing result.deed ≡ true }
-        ensures counts { (i : Instance) → counts_for result.deed ≡ Some i → result ≡ does (counted share.now.party i) (Counts i share.now.party) }
-        ensures wanted { (i : Instance) → counts_for result.deed ≡ Some i → IsWanted (rules_of self.now) (state self.now) share.now.id share.now.party (length share.now.rows) i }
+        ensures counts { (i : Instance) → counts_for result.deed ≡ Some i → result
+            ≡ does (counted share.now.party i) (Counts i share.now.party) }
+        ensures wanted { (i : Instance) → counts_for result.deed ≡ Some i
+            → IsWanted (rules_of self.now) (state self.now) share.now.id share.now.party
+            (length share.now.rows) i }
         ensures plain { is_list result.reply ≡ false }
     {
         let rows = share.rows.len() as u32;
@@ -44,10 +48,13 @@ impl Standing {
     fn count(&mut self, share: &Share, instance: &Instance)
         requires fits { All (IsPoly self.old.params.q self.old.params.n) share.now.rows }
         requires kept { Kept (rules_of self.old) (state self.old) }
-        requires wanted { IsWanted (rules_of self.old) (state self.old) share.now.id share.now.party (length share.now.rows) instance.now }
+        requires wanted { IsWanted (rules_of self.old) (state self.old) share.now.id share.now.party
+            (length share.now.rows) instance.now }
         requires more { missing share.now.party instance.now ≢ 0 }
-        ensures state { state self.new ≡ record (state self.old) { instances = after_share share.now.id share.now.party (state self.old).instances } }
-        ensures store { store self.new ≡ with_rows (setting self.old) share.now.id share.now.rows (store self.old) }
+        ensures state { state self.new ≡ record (state self.old)
+            { instances = after_share share.now.id share.now.party (state self.old).instances } }
+        ensures store { store self.new
+            ≡ with_rows (setting self.old) share.now.id share.now.rows (store self.old) }
         ensures setting { setting self.new ≡ setting self.old }
         ensures params { self.new.params ≡ self.old.params }
     {
@@ -63,14 +70,20 @@ impl Standing {
         requires room { HasRoom self.old }
         requires kept { Kept (rules_of self.old) (state self.old) }
         requires grounded { Grounded (rules_of self.old) (state self.old) }
-        ensures reply { IfOk result (λ r. r ≡ (delivered self.old share.now.id share.now.party (length share.now.rows)).reply) }
+        ensures reply { IfOk result (λ r. r
+            ≡ (delivered self.old share.now.id share.now.party (length share.now.rows)).reply) }
         ensures plain { IfOk result (λ r. is_list r ≡ false) }
-        ensures state { OnOk result (state self.new ≡ state_then self.old (delivered self.old share.now.id share.now.party (length share.now.rows))) }
-        ensures store { OnOk result (store self.new ≡ store_then self.old (delivered self.old share.now.id share.now.party (length share.now.rows)) (share_brought share.now.rows)) }
+        ensures state { OnOk result (state self.new
+            ≡ state_then self.old (delivered self.old share.now.id share.now.party
+            (length share.now.rows))) }
+        ensures store { OnOk result (store self.new
+            ≡ store_then self.old (delivered self.old share.now.id share.now.party
+            (length share.now.rows)) (share_brought share.now.rows)) }
         ensures setting { setting self.new ≡ setting self.old }
         ensures params { self.new.params ≡ self.old.params }
         ensures unchanged { OnErr result (IsUnchanged self.old self.new) }
-        ensures free { OnErr result ((delivered self.old share.now.id share.now.party (length share.now.rows)).reply ≡ reply.Completed) }
+        ensures free { OnErr result ((delivered self.old share.now.id share.now.party
+            (length share.now.rows)).reply ≡ reply.Completed) }
     {
         let verdict = self.verdict_on_share(share);
         let Some(instance) = verdict.deed.counts() else {

@@ -70,10 +70,14 @@ impl Standing {
         ensures reply { IfOk result (λ t. t.reply ≡ (taken self.old caller).reply) }
         ensures plain { IfOk result (λ t. is_list t.reply ≡ false) }
         ensures state { OnOk result (state self.new ≡ state_then self.old (taken self.old caller)) }
-        ensures store { OnOk result (store self.new ≡ store_then self.old (taken self.old caller) nothing_brought) }
-        ensures job { IfOk result (λ t. IfSome t.job (λ j. (taken self.old caller).reply ≡ reply.Job j.number)) }
-        ensures there { IfOk result (λ t. t.job ≡ None → (taken self.old caller).reply ≡ reply.Nothing) }
-        ensures circuit { IfOk result (λ t. IfSome t.job (λ j. IsJobFor (setting self.old) (store self.old) j.number j)) }
+        ensures store { OnOk result (store self.new
+            ≡ store_then self.old (taken self.old caller) nothing_brought) }
+        ensures job { IfOk result (λ t. IfSome t.job (λ j. (taken self.old caller).reply
+            ≡ reply.Job j.number)) }
+        ensures there { IfOk result (λ t. t.job ≡ None → (taken self.old caller).reply
+            ≡ reply.Nothing) }
+        ensures circuit { IfOk result (λ t. IfSome t.job
+            (λ j. IsJobFor (setting self.old) (store self.old) j.number j)) }
         ensures ready { IfOk result (λ t. IfSome t.job (λ j. CanEvaluate self.old.params j)) }
         ensures setting { setting self.new ≡ setting self.old }
         ensures params { self.new.params ≡ self.old.params }
