@@ -36,3 +36,10 @@ modest_if p s public None offers e same eight keep one = cc
 modest_if p s public (Some os) offers e same eight keep one =
     let it : os ≡ offers = cc in
     modest_one p public offers (ap (λ (z : Params). z.n) same ∙ eight) (subst (λ (z : Params). All (Keeps z) offers) (sym same) (subst (λ (z : List Offer). All (Keeps s) z) it keep)) (ap length (sym it) ∙ one)
+
+-- it keeps the rules of these parameters
+pub keeps_if : (p s : Params) (o : Option (List Offer)) (offers : List Offer) → o ≡ Some offers → p ≡ s → IfSome o (λ (os : List Offer). All (Keeps s) os) → All (Keeps p) offers
+keeps_if p s None offers e same keep = cc
+keeps_if p s (Some os) offers e same keep =
+    let it : os ≡ offers = cc in
+    subst (λ (z : Params). All (Keeps z) offers) (sym same) (subst (λ (z : List Offer). All (Keeps s) z) it keep)
