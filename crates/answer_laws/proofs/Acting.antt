@@ -5,9 +5,9 @@ use Rattle.std.proofs.lemmas.List.{length-map}
 use Rattle.std.proofs.lemmas.List.Elements.{All-map}
 use Rattle.param_set.specs.declared.params.Params.{Params}
 use Rattle.ring_spec.specs.Ring.{ring_sum, ring_product}
-use Rattle.ring_laws.specs.Aggregate.{ring_total}
+use Rattle.ring_spec.specs.Aggregate.{ring_total}
 use Rattle.bfv_spec.specs.Scheme.{pk_share}
-use Rattle.bfv_laws.specs.Parties.{Party, parts, noises, key_shares, decryption_shares}
+use Rattle.bfv_spec.specs.Members.{Member, parts, noises, key_shares, decryption_shares}
 use Rattle.noise_ledger.specs.Bounds.{numbers_of}
 use Rattle.share_spec.specs.Sets.{members, count}
 use Rattle.share_spec.specs.Dealing.{secret}
@@ -25,7 +25,7 @@ setting_of p public offers = record { numbers = numbers_of p; public = public; o
 -- ---- some points
 
 -- the parties at some points, by the part and the noise of each point
-abbrev pub acting : (ℕ → List ℕ) → (ℕ → List ℕ) → List ℕ → List Party
+abbrev pub acting : (ℕ → List ℕ) → (ℕ → List ℕ) → List ℕ → List Member
 acting part noise [] = []
 acting part noise (j ∷ js) = record { part = part j; noise = noise j } ∷ acting part noise js
 

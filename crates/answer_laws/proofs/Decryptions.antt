@@ -3,11 +3,11 @@ use Rattle.std.proofs.Common.{◌≡◌, ℕ, ◌+◌, ◌*◌, ◌≤◌, ◌<�
 use Rattle.param_set.specs.declared.params.Params.{Params}
 use Rattle.ring_spec.specs.Ring.{IsPoly, size, ring_sum}
 use Rattle.ring_spec.specs.Pairs.{Cipher}
-use Rattle.ring_laws.specs.Aggregate.{ring_total}
+use Rattle.ring_spec.specs.Aggregate.{ring_total}
 use Rattle.draw_spec.specs.Streams.{instance_stream}
 use Rattle.bfv_spec.specs.Scheme.{limit, decryption, Carries}
 use Rattle.dec_spec.specs.Decrypting.{flood, honest_dec}
-use Rattle.bfv_laws.specs.Parties.{parts, noises, decryption_shares}
+use Rattle.bfv_spec.specs.Members.{parts, noises, decryption_shares}
 use Rattle.bfv_laws.proofs.Draws.{wide_poly_is, size_wide_poly}
 use Rattle.bfv_laws.proofs.Decryptions.{parameters_fit}
 use Rattle.bfv_laws.proofs.Parties.{joint_limit_decrypts}

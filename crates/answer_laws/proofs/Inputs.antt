@@ -7,7 +7,7 @@ use Rattle.std.proofs.lemmas.List.Elements.{All-map}
 use Rattle.std.proofs.lemmas.List.FromFn.{length-map-range_with_len, get_or-map-range_with_len}
 use Rattle.param_set.specs.declared.params.Params.{Params}
 use Rattle.ring_spec.specs.Ring.{IsPoly, ring_sum, ring_product, ring_multiple}
-use Rattle.ring_spec.specs.Pairs.{Cipher, Key}
+use Rattle.ring_spec.specs.Pairs.{Cipher, Key, CipherFits}
 use Rattle.ring_laws.proofs.Residues.{sum_poly}
 use Rattle.draw_spec.specs.Streams.{input_stream}
 use Rattle.bfv_spec.specs.Scheme.{delta, encryption, Carries, IsPublicKey}
@@ -21,7 +21,7 @@ use Rattle.noise_ledger.specs.declared.over.Place.{Place}
 use Rattle.noise_ledger.specs.Bounds.{Numbers, numbers_of, input_bound}
 use Rattle.noise_ledger.specs.Ledger.{first_over}
 use Rattle.cipher_spec.specs.Ciphers.{no_cipher}
-use Rattle.circuit_laws.specs.Carrying.{IsCipher, AreInputs}
+use Rattle.circuit_laws.specs.Carrying.{AreInputs}
 use Rattle.session_rules.specs.declared.fixed.Plan.{Plan}
 use Rattle.session_rules.specs.States.{is_refused, is_admitted, plan, no_plan}
 use Rattle.session_rules.specs.Fixing.{begins_as, plan_of, fixed_from}
@@ -61,7 +61,7 @@ admitted p public offers c l e =
 -- ---- inputs
 
 -- an encryption's parts are polynomials of the ring, under whatever key
-drawn_fits : (q n t b : ℕ) (key : Key) (m seed : List ℕ) (stream k : ℕ) → 0 < q → IsCipher q n (drawn_encryption q n t b key m seed stream k)
+drawn_fits : (q n t b : ℕ) (key : Key) (m seed : List ℕ) (stream k : ℕ) → 0 < q → CipherFits q n (drawn_encryption q n t b key m seed stream k)
 unfolding drawn_encryption encryption
 drawn_fits q n t b key m seed stream k h =
     let u = ternary_poly q n seed stream k in
@@ -101,7 +101,7 @@ are_inputs p public offers seeds c key all l tells serves =
     record {
       ciphers = length-map-range_with_len (input_of w seeds key c) 0 many;
       polys = ap length told ∙ tells.number;
-      fit = All-map (IsCipher p.q p.n) (input_of w seeds key c) (range_with_len 0 many)
+      fit = All-map (CipherFits p.q p.n) (input_of w seeds key c) (range_with_len 0 many)
           (λ i d r. let k = get_or (range_with_len 0 many) i d in
           drawn_fits p.q p.n p.t p.err key (value_at w c k) (seed_at seeds (owner_at w c k)) (input_stream c k) 0 (omega arith));
       plain = subst (All (IsPoly p.t p.n)) (sym told) tells.plain;

@@ -2,12 +2,12 @@
 use Rattle.std.proofs.Common.{◌≡◌, ℕ, ◌*◌, ◌≤◌, ◌<◌, List, [], length, slice_index_or, ap, subst, ◌∙◌, arith}
 use Rattle.param_set.specs.declared.params.Params.{Params}
 use Rattle.ring_spec.specs.Ring.{IsPoly, size}
-use Rattle.ring_laws.specs.Aggregate.{ring_total}
+use Rattle.ring_spec.specs.Aggregate.{ring_total}
 use Rattle.draw_spec.specs.Streams.{instance_stream}
 use Rattle.bfv_spec.specs.Scheme.{IsPublicKey}
 use Rattle.bfv_spec.specs.Drawn.{small_poly}
 use Rattle.bfv_spec.specs.Shares.{common_poly, honest_pk, pk_from}
-use Rattle.bfv_laws.specs.Parties.{parts, noises, key_shares}
+use Rattle.bfv_spec.specs.Members.{parts, noises, key_shares}
 use Rattle.bfv_laws.proofs.Draws.{small_poly_is, size_small_poly}
 use Rattle.bfv_laws.proofs.Parties.{joint_key}
 use Rattle.share_spec.specs.Sets.{members, count}

@@ -1,8 +1,8 @@
 ghost use Rattle.std.specs.Prelude.{◌≡◌, ◌*◌, ◌/◌, IfOk, OnOk, OnErr};
+ghost use Rattle.ring_spec.specs.Pairs.{KeyFits, CipherFits};
 ghost use Rattle.ring_spec.specs.Ring.{IsPoly, ring_multiple};
 ghost use Rattle.bfv_spec.specs.Scheme.{encryption, phase as phase_of};
 ghost use Rattle.bfv_spec.specs.Drawn.{drawn_encryption};
-ghost use Rattle.bfv_core.specs.Fits.{KeyFits, CipherFits};
 ghost use Rattle.word_tape.specs.Standing.{moved};
 
 use mod_ring::{Ciphertext, Poly, PublicKey, Ring, add_into, mul, of_residues, scale_into};

@@ -1,7 +1,7 @@
 ghost use Rattle.std.specs.Prelude.{◌≡◌, IfOk};
+ghost use Rattle.ring_spec.specs.Pairs.{CipherFits};
 ghost use Rattle.ring_spec.specs.Ring.{IsPoly};
 ghost use Rattle.bfv_spec.specs.Scheme.{cipher_sum, cipher_difference, cipher_negative, cipher_multiple, trivial as trivial_of};
-ghost use Rattle.bfv_core.specs.Fits.{CipherFits};
 
 use crate::cipher::{copied, scaled};
 use mod_ring::{Ciphertext, Poly, Ring, add_into, mul, neg_into, of_residues, sub_into, zero};

@@ -3,10 +3,10 @@ use Rattle.std.proofs.Common.{◌≡◌, ℕ, ◌+◌, ◌-◌, ◌*◌, ◌/◌
 use Rattle.std.specs.Prelude.{pos}
 use Rattle.std.proofs.lemmas.Nat.{mul-le, le-div}
 use Rattle.std.proofs.lemmas.List.{get_or-map, length-map, ext_get_or}
-use Rattle.ring_spec.specs.Ring.{minus, times, coefficient, size, IsPoly, ring_difference, ring_multiple, ring_product}
+use Rattle.ring_spec.specs.Ring.{minus, times, coefficient, size, IsPoly, ring_difference, ring_multiple, ring_product, centred}
 use Rattle.ring_spec.specs.Pairs.{Cipher}
 use Rattle.bfv_spec.specs.Scheme.{delta, remainder, limit, rounded, decryption, phase, Carries}
-use Rattle.ring_laws.specs.Congruence.{Agree, centred}
+use Rattle.ring_laws.specs.Congruence.{Agree}
 use Rattle.ring_laws.proofs.Integers.{sums}
 use Rattle.ring_laws.proofs.Congruences.{agree_self, agree_chain, agree_back}
 use Rattle.ring_laws.proofs.Residues.{entry_below, sum_poly, difference_poly}

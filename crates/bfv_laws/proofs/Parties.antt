@@ -4,8 +4,8 @@ use Rattle.std.specs.Prelude.{pos, All}
 use Rattle.ring_spec.specs.Ring.{wrapped, residues, plus, minus, negated, coefficient, size, IsPoly, ring_sum, ring_difference, ring_negative, ring_multiple, ring_product}
 use Rattle.ring_spec.specs.Pairs.{Cipher}
 use Rattle.bfv_spec.specs.Scheme.{delta, remainder, limit, phase, decryption, Carries, pk_share, IsPublicKey}
-use Rattle.ring_laws.specs.Aggregate.{ring_total}
-use Rattle.bfv_laws.specs.Parties.{Party, parts, noises, key_shares, decryption_shares}
+use Rattle.ring_spec.specs.Aggregate.{ring_total}
+use Rattle.bfv_spec.specs.Members.{Member, parts, noises, key_shares, decryption_shares}
 use Rattle.ring_laws.specs.Congruence.{Agree}
 use Rattle.ring_laws.proofs.Integers.{sums}
 use Rattle.ring_laws.proofs.Products.{wrapped_sum_right, wrapped_zero_right}
@@ -49,7 +49,7 @@ share_of_nothing q n a h =
     (λ i l. omega (arith, sums, wrapped_zero_right n A i l))
 
 -- the shares of the public key add up to the share of the sum of the parts, with the sum of the noises
-pub key_shares_total : (q n : ℕ) (a : List ℕ) (ps : List Party) → 0 < q →
+pub key_shares_total : (q n : ℕ) (a : List ℕ) (ps : List Member) → 0 < q →
     ring_total q n (key_shares q n a ps) ≡ pk_share q n a (ring_total q n (parts ps)) (ring_total q n (noises ps))
 unfolding ring_total
 key_shares_total q n a [] h = share_of_nothing q n a h
@@ -58,7 +58,7 @@ key_shares_total q n a (p ∷ ps) h =
     ∙ shares_add q n a p.part p.noise (ring_total q n (parts ps)) (ring_total q n (noises ps)) h
 
 -- so they are a public key of the sum of the parts, within b for each party
-pub joint_key : (q n b : ℕ) (a : List ℕ) (ps : List Party) → 0 < q → All (IsPoly q n) (noises ps) → All (λ f. size q f ≤ b) (noises ps) →
+pub joint_key : (q n b : ℕ) (a : List ℕ) (ps : List Member) → 0 < q → All (IsPoly q n) (noises ps) → All (λ f. size q f ≤ b) (noises ps) →
     IsPublicKey q n (ring_total q n (parts ps)) (length (noises ps) * b) (record { p0 = ring_total q n (key_shares q n a ps); p1 = a })
 joint_key q n b a ps h p l =
     let k = share_is_key q n (length (noises ps) * b) a (ring_total q n (parts ps)) (ring_total q n (noises ps)) h (total_poly q n (noises ps) h) (size_total q n b (noises ps) h p l) in
@@ -94,7 +94,7 @@ dec_share_of_nothing q n c h =
     (λ i l. omega (arith, sums, wrapped_zero_right n C i l))
 
 -- the shares of a decryption add up to c1 times the sum of the parts, and the sum of the noises
-pub decryption_shares_total : (q n : ℕ) (c : List ℕ) (ps : List Party) → 0 < q →
+pub decryption_shares_total : (q n : ℕ) (c : List ℕ) (ps : List Member) → 0 < q →
     ring_total q n (decryption_shares q n c ps) ≡ ring_sum q n (ring_product q n c (ring_total q n (parts ps))) (ring_total q n (noises ps))
 unfolding ring_total
 decryption_shares_total q n c [] h = dec_share_of_nothing q n c h
@@ -104,7 +104,7 @@ decryption_shares_total q n c (p ∷ ps) h =
 
 -- with the first part of the ciphertext they give its phase and the sum of the noises, of which what
 -- is off D*m is at most what the phase's is and the noises' sum
-pub joint_noise : (q n t v w : ℕ) (c : Cipher) (m : List ℕ) (ps : List Party) → 0 < q → Carries q n t (ring_total q n (parts ps)) v c m →
+pub joint_noise : (q n t v w : ℕ) (c : Cipher) (m : List ℕ) (ps : List Member) → 0 < q → Carries q n t (ring_total q n (parts ps)) v c m →
     All (IsPoly q n) (noises ps) → All (λ f. size q f ≤ w) (noises ps) →
     size q (ring_difference q n (ring_sum q n c.c0 (ring_total q n (decryption_shares q n c.c1 ps))) (ring_multiple q n (delta q t) m)) ≤ v + length (noises ps) * w
 unfolding phase
@@ -128,7 +128,7 @@ joint_noise q n t v w c m ps h cm p l =
     rw (decryption_shares_total q n c.c1 ps h, e) (omega (arith, cm.noise))
 
 -- so their decryption is the plaintext, where v and the noises together are small enough
-pub joint_decrypts : (q n t v w : ℕ) (c : Cipher) (m : List ℕ) (ps : List Party) → 0 < q → 0 < t → IsPoly t n m → Carries q n t (ring_total q n (parts ps)) v c m →
+pub joint_decrypts : (q n t v w : ℕ) (c : Cipher) (m : List ℕ) (ps : List Member) → 0 < q → 0 < t → IsPoly t n m → Carries q n t (ring_total q n (parts ps)) v c m →
     All (IsPoly q n) (noises ps) → All (λ f. size q f ≤ w) (noises ps) → 2 * t * (v + length (noises ps) * w) + 2 * remainder q t * (t - 1) < q →
     decryption q t (ring_sum q n c.c0 (ring_total q n (decryption_shares q n c.c1 ps))) ≡ m
 joint_decrypts q n t v w c m ps h ht pm cm p l r =
@@ -136,7 +136,7 @@ joint_decrypts q n t v w c m ps h ht pm cm p l r =
     (sum_poly q n c.c0 (ring_total q n (decryption_shares q n c.c1 ps)) h) pm (joint_noise q n t v w c m ps h cm p l) r
 
 -- the same, where v and w for each party are together at most the limit
-pub joint_limit_decrypts : (q n t v w : ℕ) (c : Cipher) (m : List ℕ) (ps : List Party) → 0 < t → 2 * remainder q t * (t - 1) < q → IsPoly t n m → Carries q n t (ring_total q n (parts ps)) v c m →
+pub joint_limit_decrypts : (q n t v w : ℕ) (c : Cipher) (m : List ℕ) (ps : List Member) → 0 < t → 2 * remainder q t * (t - 1) < q → IsPoly t n m → Carries q n t (ring_total q n (parts ps)) v c m →
     All (IsPoly q n) (noises ps) → All (λ f. size q f ≤ w) (noises ps) → v + length (noises ps) * w ≤ limit q t →
     decryption q t (ring_sum q n c.c0 (ring_total q n (decryption_shares q n c.c1 ps))) ≡ m
 joint_limit_decrypts q n t v w c m ps ht r pm cm p l b =

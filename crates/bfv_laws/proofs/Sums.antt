@@ -2,10 +2,10 @@
 use Rattle.std.proofs.Common.{◌≡◌, ℕ, ◌+◌, ◌*◌, ◌/◌, ◌%◌, ◌≤◌, ◌<◌, List, get_or, ap, ◌∙◌, arith}
 use Rattle.std.specs.Prelude.{pos, neg_ℤ}
 use Rattle.std.proofs.lemmas.Nat.{mul-le, div_below}
-use Rattle.ring_spec.specs.Ring.{wrapped, plus, minus, times, coefficient, size, IsWithin, IsPoly, ring_sum, ring_difference, ring_multiple, ring_product}
+use Rattle.ring_spec.specs.Ring.{wrapped, plus, minus, times, coefficient, size, IsWithin, IsPoly, ring_sum, ring_difference, ring_multiple, ring_product, centred}
 use Rattle.ring_spec.specs.Pairs.{Cipher}
 use Rattle.bfv_spec.specs.Scheme.{delta, remainder, cipher_sum, phase, Carries}
-use Rattle.ring_laws.specs.Congruence.{Agree, centred}
+use Rattle.ring_laws.specs.Congruence.{Agree}
 use Rattle.ring_laws.proofs.Integers.{sums}
 use Rattle.ring_laws.proofs.Products.{wrapped_sum_left}
 use Rattle.ring_laws.proofs.Congruences.{agree_self, agree_chain, agree_sum, agree_back}

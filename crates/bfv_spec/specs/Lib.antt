@@ -1,3 +1,4 @@
 pub mod Scheme
 pub mod Drawn
 pub mod Shares
+pub mod Members

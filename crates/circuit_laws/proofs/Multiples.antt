@@ -3,10 +3,10 @@ use Rattle.std.proofs.Common.{◌≡◌, ℕ, ◌+◌, ◌-◌, ◌*◌, ◌<◌
 use Rattle.std.specs.Prelude.{ℤ, pos, neg_ℤ}
 use Rattle.std.proofs.lemmas.Nat.{mul-le}
 use Rattle.std.proofs.lemmas.List.{get_or-replicate}
-use Rattle.ring_spec.specs.Ring.{wrapped, plus, minus, negated, times, coefficient, size, IsWithin, IsPoly, residues, ring_difference, ring_negative, ring_multiple, ring_product}
+use Rattle.ring_spec.specs.Ring.{wrapped, plus, minus, negated, times, coefficient, size, IsWithin, IsPoly, residues, ring_difference, ring_negative, ring_multiple, ring_product, centred}
 use Rattle.ring_spec.specs.Pairs.{Cipher}
 use Rattle.bfv_spec.specs.Scheme.{delta, remainder, cipher_difference, cipher_negative, cipher_multiple, trivial, phase, Carries}
-use Rattle.ring_laws.specs.Congruence.{Agree, centred}
+use Rattle.ring_laws.specs.Congruence.{Agree}
 use Rattle.ring_laws.proofs.Integers.{sums, times_sum, times_negative}
 use Rattle.ring_laws.proofs.Products.{wrapped_sum_left, wrapped_difference_left, wrapped_negative_left, wrapped_times_left, wrapped_zero_left, wrapped_commutes, wrapped_same}
 use Rattle.ring_laws.proofs.Associates.{wrapped_associates}

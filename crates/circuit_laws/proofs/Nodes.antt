@@ -7,7 +7,7 @@ use Rattle.std.proofs.lemmas.List.{length-replicate}
 use Rattle.std.proofs.lemmas.List.Elements.{All-nil, All-cons, All-get_or, All-from_get_or}
 use Rattle.std.proofs.lemmas.List.{get_or-replicate}
 use Rattle.ring_spec.specs.Ring.{IsPoly, ring_product}
-use Rattle.ring_spec.specs.Pairs.{Cipher}
+use Rattle.ring_spec.specs.Pairs.{Cipher, CipherFits}
 use Rattle.bfv_spec.specs.Scheme.{cipher_sum, cipher_difference, cipher_negative, cipher_multiple, trivial, delta, Carries}
 use Rattle.ring_laws.proofs.Residues.{sum_poly, difference_poly, negative_poly, multiple_poly, product_poly}
 use Rattle.ring_laws.proofs.Rings.{ring_product_commutes}
@@ -20,14 +20,14 @@ use Rattle.circuit_form.specs.Values.{entry, node_value, given_after}
 use Rattle.noise_ledger.specs.Bounds.{numbers_of, sum_bound, neg_bound, plain_mul_bound}
 use Rattle.noise_ledger.specs.Ledger.{bound_at, product_bound, node_bound}
 use Rattle.cipher_spec.specs.Ciphers.{is_rotation, no_cipher, cipher_at, const_of, const_at, product_cipher, node_cipher}
-use Rattle.circuit_laws.specs.Carrying.{IsCipher, AreInputs}
+use Rattle.circuit_laws.specs.Carrying.{AreInputs}
 use Rattle.circuit_laws.proofs.Multiples.{difference_carries, negative_carries, multiple_carries, trivial_carries}
 
 -- at place k a ciphertext carries a plaintext within a bound, and both fit; a constant's plaintext is its value
 pub record Holds (p : Params) (s : List ℕ) (nodes : List Node) (k v : ℕ) (c : Cipher) (m : List ℕ) : Type 0 where
   pub carries : Carries p.q p.n p.t s v c m
   pub plain : IsPoly p.t p.n m
-  pub fits : IsCipher p.q p.n c
+  pub fits : CipherFits p.q p.n c
   pub named : (value : List ℕ) → slice_get nodes k ≡ Some (Const value) → m ≡ value
 
 -- ---- tests
@@ -124,7 +124,7 @@ unfolding may_stand node_bound node_cipher node_value given_after sum_bound neg_
 node_holds p s nodes values inputs k given bounds ciphers plains (Input owner) h ht ready each at stands turn full few = record {
   carries = ready.carry given (omega arith);
   plain = All-get_or (IsPoly p.t p.n) values given [] (omega (arith, ready.polys)) ready.plain;
-  fits = All-get_or (IsCipher p.q p.n) inputs given no_cipher (omega (arith, ready.ciphers)) ready.fit;
+  fits = All-get_or (CipherFits p.q p.n) inputs given no_cipher (omega (arith, ready.ciphers)) ready.fit;
   named = λ v e. cc;
 }
 node_holds p s nodes values inputs k given bounds ciphers plains (Const value) h ht ready each at stands turn full few = record {

@@ -1,7 +1,7 @@
 -- What the output of a circuit carries.
 use Rattle.std.specs.Prelude.{◌≡◌, ℕ, ◌+◌, ◌*◌, ◌<◌, ◌≤◌, true, List, [], length, slice_index_or, All, None}
 use Rattle.ring_spec.specs.Ring.{IsPoly}
-use Rattle.ring_spec.specs.Pairs.{Cipher}
+use Rattle.ring_spec.specs.Pairs.{Cipher, CipherFits}
 use Rattle.bfv_spec.specs.Scheme.{Carries}
 use Rattle.param_set.specs.declared.params.Params.{Params}
 use Rattle.circuit_form.specs.declared.node.Node.{Node}
@@ -11,17 +11,12 @@ use Rattle.noise_ledger.specs.Bounds.{numbers_of, limit, input_bound}
 use Rattle.noise_ledger.specs.Ledger.{first_over}
 use Rattle.cipher_spec.specs.Ciphers.{is_switch_free, cipher_at, output_cipher}
 
--- a ciphertext whose parts are polynomials of the ring
-pub record IsCipher (q n : ℕ) (c : Cipher) : Type 0 where
-  pub c0 : IsPoly q n c.c0
-  pub c1 : IsPoly q n c.c1
-
 -- ciphertexts of a circuit's inputs, each of which carries its value under the secret s within the bound of an
 -- input
 pub record AreInputs (p : Params) (s : List ℕ) (nodes : List Node) (values : List (List ℕ)) (inputs : List Cipher) : Type 0 where
   pub ciphers : length inputs ≡ length (owners nodes)
   pub polys : length values ≡ length (owners nodes)
-  pub fit : All (IsCipher p.q p.n) inputs
+  pub fit : All (CipherFits p.q p.n) inputs
   pub plain : All (IsPoly p.t p.n) values
   pub carry : (k : ℕ) → k < length (owners nodes) → Carries p.q p.n p.t s (input_bound (numbers_of p)) (cipher_at inputs k) (slice_index_or values k [])
 
@@ -31,7 +26,7 @@ pub record Opens (p : Params) (s : List ℕ) (c : Cipher) (m : List ℕ) : Type 
   pub within : noise + p.threshold * p.flood ≤ limit (numbers_of p)
   pub carries : Carries p.q p.n p.t s noise c m
   pub plain : IsPoly p.t p.n m
-  pub fits : IsCipher p.q p.n c
+  pub fits : CipherFits p.q p.n c
 
 -- the output of an admitted circuit that needs no key switch carries its plain value
 abbrev pub OutputsCarry : Type 0

@@ -1,7 +1,7 @@
 -- What each node of a circuit carries, and within which noise.
 use Rattle.std.specs.Prelude.{◌≡◌, ℕ, ◌-◌, ◌<◌, ◌≤◌, true, List, [], length, None}
 use Rattle.ring_spec.specs.Ring.{IsPoly}
-use Rattle.ring_spec.specs.Pairs.{Cipher}
+use Rattle.ring_spec.specs.Pairs.{Cipher, CipherFits}
 use Rattle.bfv_spec.specs.Scheme.{Carries}
 use Rattle.param_set.specs.declared.params.Params.{Params}
 use Rattle.circuit_form.specs.declared.node.Node.{Node}
@@ -12,7 +12,7 @@ use Rattle.noise_ledger.specs.declared.over.Place.TheVariants.{Node as AtNode}
 use Rattle.noise_ledger.specs.Bounds.{numbers_of, limit}
 use Rattle.noise_ledger.specs.Ledger.{place_bound, first_over}
 use Rattle.cipher_spec.specs.Ciphers.{is_switch_free, cipher_at, ciphers_from, output_cipher}
-use Rattle.circuit_laws.specs.Carrying.{IsCipher, AreInputs}
+use Rattle.circuit_laws.specs.Carrying.{AreInputs}
 
 -- the ciphertexts of a circuit's nodes, and their polynomials, each from those of the inputs
 unfoldable pub node_ciphers : ℕ → ℕ → ℕ → List Cipher → List Node → List Cipher
@@ -25,7 +25,7 @@ node_values n t values nodes = values_from n t values [] 0 nodes
 pub record CarriesWithin (p : Params) (s : List ℕ) (noise : ℕ) (c : Cipher) (m : List ℕ) : Type 0 where
   pub carries : Carries p.q p.n p.t s noise c m
   pub plain : IsPoly p.t p.n m
-  pub fits : IsCipher p.q p.n c
+  pub fits : CipherFits p.q p.n c
 
 -- each node of a circuit that needs no key switch carries its plain value within its own bound of the ledger
 abbrev pub NodesCarry : Type 0

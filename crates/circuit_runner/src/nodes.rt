@@ -1,5 +1,5 @@
 ghost use Rattle.std.specs.Prelude.{◌≡◌, true, [], length, All, IfOk, None};
-ghost use Rattle.bfv_core.specs.Fits.{CipherFits};
+ghost use Rattle.ring_spec.specs.Pairs.{CipherFits};
 ghost use Rattle.circuit_form.specs.Circuits.{first_fault, owners};
 ghost use Rattle.cipher_spec.specs.Ciphers.{is_switch_free, ciphers_from};
 

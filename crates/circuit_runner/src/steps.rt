@@ -1,6 +1,6 @@
 ghost use Rattle.std.specs.Prelude.{◌≡◌, ◌+◌, ◌<◌, ◌≤◌, false, true, length, All, IfOk, IfSome, IfNone, None};
 ghost use Rattle.std.specs.List.{slice_get};
-ghost use Rattle.bfv_core.specs.Fits.{CipherFits};
+ghost use Rattle.ring_spec.specs.Pairs.{CipherFits};
 ghost use Rattle.circuit_form.specs.Circuits.{may_stand, first_fault, is_const, is_full};
 ghost use Rattle.circuit_form.specs.Values.{given_after};
 ghost use Rattle.cipher_spec.specs.Ciphers.{is_rotation, const_at, product_cipher, node_cipher};

@@ -5,13 +5,13 @@ use Rattle.std.proofs.lemmas.List.Elements.{All-map, All-weaker}
 use Rattle.std.proofs.lemmas.Nat.{mod_below}
 use Rattle.ring_spec.specs.Ring.{IsPoly, ring_sum}
 use Rattle.bfv_spec.specs.Scheme.{limit, decryption, rounded}
-use Rattle.bfv_laws.specs.Parties.{Party, noises}
+use Rattle.bfv_spec.specs.Members.{Member, noises}
 use Rattle.bfv_laws.proofs.Decryptions.{parameters_fit}
 use Rattle.bfv_laws.proofs.Parties.{joint_limit_decrypts}
 use Rattle.decrypt_protocol.specs.Together.{OpensForAll}
 
 -- there is one noise for each party
-noises-length : (ps : List Party) → length (noises ps) ≡ length ps
+noises-length : (ps : List Member) → length (noises ps) ≡ length ps
 noises-length [] = refl
 noises-length (p ∷ ps) = ap suc (noises-length ps)
 

@@ -3,12 +3,12 @@ use Rattle.std.proofs.Common.{◌≡◌, ◌<◌, ℕ, zero, suc, List, [], ◌�
 use Rattle.std.specs.Prelude.{ℤ, pos, negsuc, ◌≤◌, All}
 use Rattle.std.specs.List.{range_with_len}
 use Rattle.ring_spec.specs.Ring.{total, residue, residues, centre, wrapped, turned, IsPoly, size, ring_sum, ring_difference, ring_multiple, ring_product, ring_turned}
-use Rattle.ring_spec.specs.Pairs.{Cipher}
+use Rattle.ring_spec.specs.Pairs.{Cipher, CipherFits}
 use Rattle.bfv_spec.specs.Scheme.{cipher_sum}
 use Rattle.gadget_laws.specs.Shifted.{halves}
 use Rattle.gadget_laws.specs.Switching.{switch_noise}
 use Rattle.gadget_spec.specs.Digits.{Gadget, Serves, weight, widest, base_digit, lowest, divided, rest, balanced_digit, digit, digit_poly, digit_polys}
-use Rattle.gadget_spec.specs.Switching.{KeyRow, IsSwitchKey, row_at, row_phase, combined, key_switch, rotation, IsCipher}
+use Rattle.gadget_spec.specs.Switching.{KeyRow, IsSwitchKey, row_at, row_phase, combined, key_switch, rotation}
 
 -- ---- digits of eight bits, of residues modulo 31525197391593473, in seven rows
 
@@ -146,10 +146,10 @@ both_below x y h l = record { entries = refl; below = each }
     each (suc zero) d p = l
     each (suc (suc i)) d p = absurd (omega (arith, p))
 
-fits : IsCipher 97 2 cipher
+fits : CipherFits 97 2 cipher
 fits = record { c0 = both_below 60 55 (omega arith) (omega arith); c1 = both_below 11 2 (omega arith) (omega arith) }
 
-too_large : IsCipher 60 2 cipher → ⊥
+too_large : CipherFits 60 2 cipher → ⊥
 too_large c = let first : 60 < 60 = c.c0.below 0 0 (omega arith) in absurd (omega (arith, first))
 
 -- ---- what a switch adds, in numbers, with n = 8 and rows whose noise is within 2

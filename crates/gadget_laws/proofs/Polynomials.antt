@@ -3,7 +3,7 @@ use Rattle.std.proofs.Common.{◌≡◌, ℕ, zero, suc, ◌+◌, ◌<◌, List,
 use Rattle.std.specs.Prelude.{Bool, true, false, cond, ℤ, pos, ◌+ℤ◌, ◌*ℤ◌}
 use Rattle.std.specs.List.{range_with_len}
 use Rattle.ring_spec.specs.Ring.{total, coefficient, centre, IsPoly, ring_multiple}
-use Rattle.ring_laws.specs.Aggregate.{ring_total}
+use Rattle.ring_spec.specs.Aggregate.{ring_total}
 use Rattle.ring_laws.specs.Congruence.{IsCongruent, Agree}
 use Rattle.gadget_spec.specs.Digits.{Gadget, Serves, weight, digit_at, digit_poly, digit_polys}
 use Rattle.gadget_laws.specs.Digits.{weighted}

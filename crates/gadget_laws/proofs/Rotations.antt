@@ -2,12 +2,12 @@
 use Rattle.std.proofs.Common.{◌≡◌, ℕ, ◌+◌, ◌*◌, ◌%◌, ◌<◌, List, replicate, sym, ap, subst, arith}
 use Rattle.std.specs.Prelude.{ℤ, pos, neg_ℤ}
 use Rattle.std.proofs.lemmas.List.{get_or-replicate}
-use Rattle.ring_spec.specs.Ring.{wrapped, turned, plus, minus, times, coefficient, size, IsWithin, residues, ring_difference, ring_multiple, ring_turned}
+use Rattle.ring_spec.specs.Ring.{wrapped, turned, plus, minus, times, coefficient, size, IsWithin, residues, ring_difference, ring_multiple, ring_turned, centred}
 use Rattle.ring_spec.specs.Pairs.{Cipher}
 use Rattle.bfv_spec.specs.Scheme.{delta, remainder, cipher_sum, phase, Carries}
 use Rattle.gadget_spec.specs.Digits.{Gadget, Serves}
 use Rattle.gadget_spec.specs.Switching.{KeyRow, IsSwitchKey, key_switch, rotation}
-use Rattle.ring_laws.specs.Congruence.{Agree, centred}
+use Rattle.ring_laws.specs.Congruence.{Agree}
 use Rattle.gadget_laws.specs.Switching.{switch_noise, RotationsAddLittle, RotationsCarry}
 use Rattle.ring_laws.proofs.Integers.{sums}
 use Rattle.ring_laws.proofs.Products.{wrapped_sum_left, wrapped_zero_left}

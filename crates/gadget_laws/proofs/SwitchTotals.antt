@@ -3,11 +3,12 @@ use Rattle.std.proofs.Common.{◌≡◌, ℕ, zero, suc, ◌+◌, ◌<◌, List,
 use Rattle.std.specs.Prelude.{pos}
 use Rattle.std.specs.List.{range_with_len}
 use Rattle.std.proofs.lemmas.List.{get_or-replicate, length-replicate}
+use Rattle.ring_spec.specs.Pairs.{CipherFits}
 use Rattle.ring_spec.specs.Ring.{residue, residues, IsPoly, ring_sum, ring_product, ring_turned}
-use Rattle.ring_laws.specs.Aggregate.{ring_total}
+use Rattle.ring_spec.specs.Aggregate.{ring_total}
 use Rattle.bfv_spec.specs.Scheme.{cipher_sum}
 use Rattle.gadget_spec.specs.Digits.{digit_poly, digit_polys}
-use Rattle.gadget_spec.specs.Switching.{KeyRow, row_at, combined, key_switch, rotation, IsCipher}
+use Rattle.gadget_spec.specs.Switching.{KeyRow, row_at, combined, key_switch, rotation}
 use Rattle.gadget_laws.specs.Switching.{SwitchesFit, RotationsFit}
 use Rattle.gadget_laws.specs.Totals.{SwitchesAreTotals}
 use Rattle.ring_laws.proofs.Residues.{residues_unique, residues_poly, sum_poly}
@@ -41,7 +42,7 @@ switches_are_totals q n g key f h e = totals q n (digit_poly q n g f) (row_at ke
 zeros_fit : (q n : ℕ) → 0 < q → IsPoly q n (replicate n 0)
 zeros_fit q n h = subst (IsPoly q n) (sym (zeros_are q n h)) (residues_poly q n (λ i. pos 0) h)
 
-combined_fits : (q n : ℕ) (key : List KeyRow) (ds : List (List ℕ)) → 0 < q → IsCipher q n (combined q n key ds)
+combined_fits : (q n : ℕ) (key : List KeyRow) (ds : List (List ℕ)) → 0 < q → CipherFits q n (combined q n key ds)
 unfolding combined cipher_sum
 combined_fits q n [] ds h = record { c0 = zeros_fit q n h; c1 = zeros_fit q n h }
 combined_fits q n (row ∷ key) [] h = record { c0 = zeros_fit q n h; c1 = zeros_fit q n h }

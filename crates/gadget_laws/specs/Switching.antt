@@ -2,11 +2,11 @@
 use Rattle.std.specs.Prelude.{◌≡◌, ℕ, ◌+◌, ◌*◌, ◌%◌, ◌^◌, ◌<◌, ◌≤◌, List, map}
 use Rattle.std.specs.List.{range_with_len}
 use Rattle.ring_spec.specs.Ring.{IsPoly, ring_difference, ring_multiple, ring_product, ring_turned, size}
-use Rattle.ring_spec.specs.Pairs.{Cipher}
-use Rattle.ring_laws.specs.Aggregate.{ring_total}
+use Rattle.ring_spec.specs.Pairs.{Cipher, CipherFits}
+use Rattle.ring_spec.specs.Aggregate.{ring_total}
 use Rattle.bfv_spec.specs.Scheme.{remainder, phase, Carries}
 use Rattle.gadget_spec.specs.Digits.{Gadget, Serves, weight, widest, digit_poly}
-use Rattle.gadget_spec.specs.Switching.{KeyRow, IsSwitchKey, key_switch, rotation, IsCipher}
+use Rattle.gadget_spec.specs.Switching.{KeyRow, IsSwitchKey, key_switch, rotation}
 
 -- what a switch adds where its key's rows have noise within v
 abbrev pub switch_noise : ℕ → Gadget → ℕ → ℕ
@@ -45,10 +45,10 @@ SwitchesAddLittle =
 
 -- what is switched, or rotated, is a ciphertext of the ring
 abbrev pub SwitchesFit : Type 0
-SwitchesFit = (q n : ℕ) (g : Gadget) (key : List KeyRow) (f : List ℕ) → 0 < q → IsCipher q n (key_switch q n g key f)
+SwitchesFit = (q n : ℕ) (g : Gadget) (key : List KeyRow) (f : List ℕ) → 0 < q → CipherFits q n (key_switch q n g key f)
 
 abbrev pub RotationsFit : Type 0
-RotationsFit = (q n e : ℕ) (g : Gadget) (key : List KeyRow) (c : Cipher) → 0 < q → IsCipher q n (rotation q n g key e c)
+RotationsFit = (q n e : ℕ) (g : Gadget) (key : List KeyRow) (c : Cipher) → 0 < q → CipherFits q n (rotation q n g key e c)
 
 -- ---- rotations
 

@@ -2,7 +2,7 @@
 use Rattle.std.specs.Prelude.{◌≡◌, ℕ, ◌<◌, List, map, length}
 use Rattle.std.specs.List.{range_with_len}
 use Rattle.ring_spec.specs.Ring.{ring_product}
-use Rattle.ring_laws.specs.Aggregate.{ring_total}
+use Rattle.ring_spec.specs.Aggregate.{ring_total}
 use Rattle.gadget_spec.specs.Digits.{Gadget, digit_poly}
 use Rattle.gadget_spec.specs.Switching.{KeyRow, row_at, key_switch}
 

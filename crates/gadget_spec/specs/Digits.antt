@@ -2,7 +2,7 @@
 -- Vercauteren 2012, section 4; balanced digits are this project's own choice of them.
 use Rattle.std.specs.Prelude.{ℕ, zero, suc, ◌+◌, ◌-◌, ◌*◌, ◌/◌, ◌%◌, ◌^◌, ◌<◌, ◌≤◌, Bool, cond, nat_eq, List, map, get_or, ℤ, pos, negsuc, ◌+ℤ◌, ◌-ℤ◌}
 use Rattle.std.specs.List.{range_with_len}
-use Rattle.ring_spec.specs.Ring.{residue, residues, centre}
+use Rattle.ring_spec.specs.Ring.{Coefficients, residue, residues, centre}
 
 -- how many bits a digit has, how many rows there are, one for each digit of a residue, and whether digits
 -- are balanced
@@ -57,12 +57,12 @@ unfoldable pub digit : ℕ → Gadget → ℕ → ℕ → ℤ
 digit q g i x = cond g.balanced (balanced_digit g.bits g.rows i (centre q x)) (pos (base_digit g.bits i x))
 
 -- digit i of the coefficient at place k of a polynomial
-abbrev pub digit_at : ℕ → Gadget → ℕ → List ℕ → ℕ → ℤ
+abbrev pub digit_at : ℕ → Gadget → ℕ → Coefficients → ℕ → ℤ
 digit_at q g i f k = digit q g i (get_or f k 0)
 
 -- the polynomial of the digits i of all coefficients, by their residues, and the polynomials of all rows
-unfoldable pub digit_poly : ℕ → ℕ → Gadget → List ℕ → ℕ → List ℕ
+unfoldable pub digit_poly : ℕ → ℕ → Gadget → Coefficients → ℕ → Coefficients
 digit_poly q n g f i = residues q n (digit_at q g i f)
 
-unfoldable pub digit_polys : ℕ → ℕ → Gadget → List ℕ → List (List ℕ)
+unfoldable pub digit_polys : ℕ → ℕ → Gadget → Coefficients → List Coefficients
 digit_polys q n g f = map (digit_poly q n g f) (range_with_len 0 g.rows)

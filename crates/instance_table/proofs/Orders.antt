@@ -8,7 +8,7 @@ use Rattle.std.proofs.lemmas.List.Elements.{All-get_or}
 use Rattle.std.proofs.lemmas.List.Sorted.{IsPermutation-map}
 use Rattle.std.proofs.Math.Nat.{mod-eq_of_lt}
 use Rattle.ring_spec.specs.Ring.{IsPoly, residue, residues, ring_sum}
-use Rattle.ring_laws.specs.Aggregate.{ring_total}
+use Rattle.ring_spec.specs.Aggregate.{ring_total}
 use Rattle.ring_laws.proofs.Residues.{residues_unique, sum_poly}
 use Rattle.ring_laws.proofs.Rings.{ring_sum_zero, ring_sum_commutes, ring_sum_associates}
 use Rattle.ring_laws.proofs.Aggregates.{total_poly, total_permutation}

@@ -2,7 +2,7 @@
 -- as they are.
 use Rattle.std.proofs.Common.{◌≡◌, ◌<◌, ◌≤◌, ℕ, zero, suc, List, [], ◌∷◌, map, get_or, false, refl, ap, arith}
 use Rattle.ring_spec.specs.Ring.{total, residue, residues, centre, wrapped, size, ring_sum, ring_difference, ring_negative, ring_multiple, ring_product, ring_turned}
-use Rattle.ring_laws.specs.Aggregate.{ring_total}
+use Rattle.ring_spec.specs.Aggregate.{ring_total}
 use Rattle.draw_spec.specs.Draws.{uniform, small, ternary}
 use Rattle.bfv_spec.specs.Drawn.{uniform_poly, small_poly, ternary_poly}
 use Rattle.gadget_spec.specs.Digits.{Gadget, weight}

@@ -1,8 +1,8 @@
 -- What the phase of a key's row is: the weight times what it is a key for, and noise.
 use Rattle.std.proofs.Common.{◌≡◌, ℕ, ◌+◌, ◌*◌, ◌≤◌, ◌<◌, List, arith}
 use Rattle.std.specs.Prelude.{ℤ, pos}
-use Rattle.ring_spec.specs.Ring.{wrapped, plus, minus, negated, times, coefficient, size, IsWithin, IsPoly, ring_sum, ring_difference, ring_multiple, ring_product}
-use Rattle.ring_laws.specs.Congruence.{Agree, centred}
+use Rattle.ring_spec.specs.Ring.{wrapped, plus, minus, negated, times, coefficient, size, IsWithin, IsPoly, ring_sum, ring_difference, ring_multiple, ring_product, centred}
+use Rattle.ring_laws.specs.Congruence.{Agree}
 use Rattle.gadget_spec.specs.Switching.{row_phase}
 use Rattle.key_spec.specs.Rounds.{switch_share}
 use Rattle.ring_laws.proofs.Integers.{sums}

@@ -3,7 +3,7 @@ use Rattle.std.proofs.Common.{◌≡◌, ℕ, ◌+◌, ◌*◌, ◌≤◌, ◌<�
 use Rattle.std.specs.List.{range_with_len}
 use Rattle.std.proofs.lemmas.List.FromFn.{length-map-range_with_len, get_or-map-range_with_len}
 use Rattle.ring_spec.specs.Ring.{size, IsPoly, ring_sum, ring_difference, ring_product}
-use Rattle.ring_laws.specs.Aggregate.{ring_total}
+use Rattle.ring_spec.specs.Aggregate.{ring_total}
 use Rattle.draw_spec.specs.Streams.{instance_stream}
 use Rattle.bfv_spec.specs.Drawn.{small_poly}
 use Rattle.bfv_spec.specs.Shares.{common_poly}

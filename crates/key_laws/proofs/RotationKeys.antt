@@ -3,7 +3,7 @@ use Rattle.std.proofs.Common.{◌≡◌, ℕ, ◌*◌, ◌<◌, List, [], map, g
 use Rattle.std.specs.List.{range_with_len}
 use Rattle.std.proofs.lemmas.List.FromFn.{length-map-range_with_len, get_or-map-range_with_len}
 use Rattle.ring_spec.specs.Ring.{ring_turned}
-use Rattle.ring_laws.specs.Aggregate.{ring_total}
+use Rattle.ring_spec.specs.Aggregate.{ring_total}
 use Rattle.draw_spec.specs.Streams.{instance_stream}
 use Rattle.bfv_spec.specs.Shares.{common_poly}
 use Rattle.gadget_spec.specs.Digits.{Gadget, weight}

@@ -2,7 +2,7 @@
 use Rattle.std.proofs.Common.{◌≡◌, ℕ, ◌*◌, ◌≤◌, ◌<◌, List, [], ◌∷◌, map, length, refl, sym, ap, ◌∙◌, arith}
 use Rattle.std.specs.Prelude.{ℤ, pos}
 use Rattle.ring_spec.specs.Ring.{wrapped, turned, residues, plus, minus, negated, times, coefficient, size, IsPoly, ring_sum, ring_difference, ring_negative, ring_multiple, ring_product, ring_turned}
-use Rattle.ring_laws.specs.Aggregate.{ring_total}
+use Rattle.ring_spec.specs.Aggregate.{ring_total}
 use Rattle.ring_laws.specs.Congruence.{Agree}
 use Rattle.key_spec.specs.Rounds.{switch_share}
 use Rattle.ring_laws.proofs.Integers.{sums, times_sum, times_zero}

@@ -1,7 +1,7 @@
 -- What noise the keys have that are made of the sums of honest shares, where the parties' parts sum to the secret.
 use Rattle.std.specs.Prelude.{◌≡◌, ℕ, ◌+◌, ◌*◌, ◌<◌, ◌≤◌, List, map, length}
 use Rattle.ring_spec.specs.Ring.{ring_product, ring_turned, size}
-use Rattle.ring_laws.specs.Aggregate.{ring_total}
+use Rattle.ring_spec.specs.Aggregate.{ring_total}
 use Rattle.gadget_spec.specs.Digits.{Gadget}
 use Rattle.gadget_spec.specs.Switching.{IsSwitchKey}
 use Rattle.key_spec.specs.Rounds.{AreSums}

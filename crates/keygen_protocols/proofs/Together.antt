@@ -1,13 +1,13 @@
 -- The shares of several parties sum to a public key of the sum of their parts.
 use Rattle.std.proofs.Common.{◌≡◌, ℕ, suc, ◌*◌, ◌<◌, List, [], ◌∷◌, length, refl, ap, subst}
-use Rattle.ring_laws.specs.Aggregate.{ring_total}
+use Rattle.ring_spec.specs.Aggregate.{ring_total}
 use Rattle.bfv_spec.specs.Scheme.{IsPublicKey}
-use Rattle.bfv_laws.specs.Parties.{Party, parts, noises, key_shares}
+use Rattle.bfv_spec.specs.Members.{Member, parts, noises, key_shares}
 use Rattle.bfv_laws.proofs.Parties.{joint_key}
 use Rattle.keygen_protocols.specs.Together.{IsKeyOfAll}
 
 -- there is one noise for each party
-noises-length : (ps : List Party) → length (noises ps) ≡ length ps
+noises-length : (ps : List Member) → length (noises ps) ≡ length ps
 noises-length [] = refl
 noises-length (p ∷ ps) = ap suc (noises-length ps)
 

@@ -1,9 +1,9 @@
 ghost use Rattle.std.specs.Prelude.{◌≡◌, ℕ, [], ◌∷◌, length, slice_index_or, All, IfOk};
+ghost use Rattle.ring_spec.specs.Pairs.{KeyFits};
 ghost use Rattle.ring_spec.specs.Ring.{IsPoly};
 ghost use Rattle.draw_spec.specs.Streams.{instance_stream as stream_of_instance};
 ghost use Rattle.bfv_spec.specs.Drawn.{small_poly};
 ghost use Rattle.bfv_spec.specs.Shares.{common_poly, honest_pk, pk_from};
-ghost use Rattle.bfv_core.specs.Fits.{KeyFits};
 ghost use Rattle.keygen_protocols.specs.Together.{IsKeyOfAll};
 
 use crate::commons::first_common;

@@ -1,8 +1,7 @@
 -- Those that act in a session.
 use Rattle.std.specs.Prelude.{◌≡◌, ℕ, Bool, true, List, map, All, IsSome, Some}
 use Rattle.std.specs.List.{slice_index_or, range_with_len}
-use Rattle.ring_spec.specs.Pairs.{Key}
-use Rattle.bfv_core.specs.Fits.{KeyFits}
+use Rattle.ring_spec.specs.Pairs.{Key, KeyFits}
 use Rattle.param_set.specs.declared.params.Params.{Params}
 use Rattle.party_roll.specs.declared.party.Party.{Ghosts}
 use Rattle.party_roll.specs.declared.placed.Placed.{Placed}

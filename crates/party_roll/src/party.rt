@@ -1,12 +1,12 @@
 //! What a party of a session does.
 ghost use Rattle.std.specs.Prelude.{◌≡◌, ℕ, ◌<◌, List, Bool, true, length, All, Some, IsSome, IfOk};
+ghost use Rattle.ring_spec.specs.Pairs.{KeyFits, CipherFits};
 ghost use Rattle.ring_spec.specs.Ring.{IsPoly};
 ghost use Rattle.draw_spec.specs.Streams.{input_stream};
 ghost use Rattle.bfv_spec.specs.Drawn.{drawn_encryption};
 ghost use Rattle.param_set.specs.Numbers.{digit_rows};
 ghost use Rattle.param_set.specs.declared.params.Params.{Params};
 ghost use Rattle.noise_ledger.specs.Bounds.{numbers_of};
-ghost use Rattle.bfv_core.specs.Fits.{KeyFits, CipherFits};
 ghost use Rattle.proto_names.specs.Names.{rows_of};
 ghost use Rattle.session_spec.specs.Settings.{Setting, seed_at};
 ghost use Rattle.session_spec.specs.Shares.{share_rows};

@@ -3,7 +3,6 @@ ghost use Rattle.ring_spec.specs.Ring.{IsPoly};
 ghost use Rattle.draw_spec.specs.Streams.{party_seed, input_stream};
 ghost use Rattle.bfv_spec.specs.Drawn.{drawn_encryption};
 ghost use Rattle.bfv_spec.specs.Shares.{honest_pk};
-ghost use Rattle.bfv_core.specs.Fits.{KeyFits, CipherFits};
 ghost use Rattle.dec_spec.specs.Decrypting.{honest_dec};
 ghost use Rattle.share_spec.specs.Dealing.{share as share_at, part};
 ghost use Rattle.party_roll.specs.Seeds.{seeds_of};
@@ -124,6 +123,7 @@ impl SeedParty {
     ghost use Rattle.proto_names.specs.Names.{rows_of};
     ghost use Rattle.party_roll.specs.Briefs.{IsBrief};
     ghost use Rattle.std.specs.Prelude.{length};
+    ghost use Rattle.ring_spec.specs.Pairs.{KeyFits, CipherFits};
 
     /// The rows of its share of an instance.
     #[tactic(auto, using(crate::proofs::Honest::key_rows, crate::proofs::Honest::dec_rows), unfolding(proto_names::specs::Names::rows_of))]

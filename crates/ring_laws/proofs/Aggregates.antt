@@ -7,7 +7,7 @@ use Rattle.std.proofs.lemmas.List.Sums.{sum_by-cons}
 use Rattle.std.proofs.lemmas.List.Sorted.{sum_by-IsPermutation}
 use Rattle.std.proofs.Math.Nat.{add-mod-mod}
 use Rattle.ring_spec.specs.Ring.{residue, residues, plus, coefficient, size, IsPoly, ring_sum}
-use Rattle.ring_laws.specs.Aggregate.{ring_total}
+use Rattle.ring_spec.specs.Aggregate.{ring_total}
 use Rattle.ring_laws.proofs.Residues.{residues_at, residues_poly, sum_poly}
 use Rattle.ring_laws.proofs.Rings.{ring_sum_zero, ring_sum_commutes, ring_sum_associates}
 use Rattle.ring_laws.proofs.Sizes.{size_residues, size_sum}

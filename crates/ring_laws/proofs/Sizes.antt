@@ -5,8 +5,8 @@ use Rattle.std.proofs.lemmas.Bool.{cases_lt, cond-true, cond-false, lt-ltb, le-l
 use Rattle.std.proofs.lemmas.Int.{unsigned_abs-mul}
 use Rattle.std.proofs.lemmas.Nat.{mul-le}
 use Rattle.std.proofs.lemmas.List.{get_or-map, length-map}
-use Rattle.ring_spec.specs.Ring.{total, wrapped, centre, residues, plus, minus, negated, times, coefficient, greatest, size, IsWithin, IsPoly, ring_sum, ring_difference, ring_negative, ring_multiple, ring_product}
-use Rattle.ring_laws.specs.Congruence.{IsCongruent, Agree, centred}
+use Rattle.ring_spec.specs.Ring.{total, wrapped, centre, residues, plus, minus, negated, times, coefficient, greatest, size, IsWithin, IsPoly, ring_sum, ring_difference, ring_negative, ring_multiple, ring_product, centred}
+use Rattle.ring_laws.specs.Congruence.{IsCongruent, Agree}
 use Rattle.ring_laws.proofs.Integers.{sums, times_negative, abs_sum, abs_negative}
 use Rattle.ring_laws.proofs.Totals.{total_within}
 use Rattle.ring_laws.proofs.Products.{shifted, shifted_low, shifted_high, wrapped_is}

@@ -5,8 +5,7 @@ use Rattle.std.proofs.lemmas.Bool.{cases_eq}
 use Rattle.std.proofs.lemmas.Int.{unsigned_abs-mul}
 use Rattle.std.proofs.lemmas.Nat.{mul-le, mod-mul-add, mul-mod_first, pow_pos, pow-add}
 use Rattle.std.proofs.Math.Nat.{pow-suc, pow-succ', pow-zero}
-use Rattle.ring_spec.specs.Ring.{total, turned, IsPoly, IsWithin, size, ring_turned}
-use Rattle.ring_laws.specs.Congruence.{centred}
+use Rattle.ring_spec.specs.Ring.{total, turned, IsPoly, IsWithin, size, ring_turned, centred}
 use Rattle.ring_laws.proofs.Integers.{abs_sum}
 use Rattle.ring_laws.proofs.Totals.{total_same, total_zero}
 use Rattle.ring_laws.proofs.Powers.{unit, power, unit_one, unit_minus, unit_none}

@@ -1,2 +1,1 @@
-pub mod Aggregate
 pub mod Congruence

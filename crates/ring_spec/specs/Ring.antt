@@ -3,6 +3,12 @@
 use Rattle.std.specs.Prelude.{◌≡◌, ℕ, zero, suc, ◌+◌, ◌-◌, ◌*◌, ◌%◌, ◌<◌, ◌≤◌, max, cond, nat_eq, nat_le, nat_lt, List, [], ◌∷◌, map, length, All, get_or, ℤ, pos, negsuc, ◌+ℤ◌, ◌-ℤ◌, ◌*ℤ◌, neg_ℤ, unsigned_abs}
 use Rattle.std.specs.List.{range_with_len}
 
+-- ---- what lists of numbers stand for
+
+-- the coefficients of a polynomial: residues, lowest degree first
+abbrev pub Coefficients : Type 0
+Coefficients = List ℕ
+
 -- ---- whole numbers
 
 -- the sum f 0 + f 1 + .. + f (n - 1)
@@ -60,7 +66,7 @@ IsWithin n v a = (i : ℕ) → i < n → unsigned_abs (a i) ≤ v
 -- ---- lists
 
 -- the coefficient at a place of a list of residues, 0 past its end
-abbrev pub coefficient : List ℕ → ℕ → ℤ
+abbrev pub coefficient : Coefficients → ℕ → ℤ
 coefficient f i = pos (get_or f i 0)
 
 -- the same of a list of whole numbers
@@ -68,34 +74,34 @@ abbrev pub signed : List ℤ → ℕ → ℤ
 signed f i = get_or f i (pos 0)
 
 -- the list of the residues of n coefficients
-unfoldable pub residues : ℕ → ℕ → (ℕ → ℤ) → List ℕ
+unfoldable pub residues : ℕ → ℕ → (ℕ → ℤ) → Coefficients
 residues q n a = map (λ i. residue q (a i)) (range_with_len 0 n)
 
 -- a list is a polynomial of the ring where it has n entries, each below q
-pub record IsPoly (q n : ℕ) (f : List ℕ) : Type 0 where
+pub record IsPoly (q n : ℕ) (f : Coefficients) : Type 0 where
   pub entries : length f ≡ n
   pub below : All (λ x. x < q) f
 
 -- ---- the operations of the ring, on lists of residues
 
-unfoldable pub ring_sum : ℕ → ℕ → List ℕ → List ℕ → List ℕ
+unfoldable pub ring_sum : ℕ → ℕ → Coefficients → Coefficients → Coefficients
 ring_sum q n f g = residues q n (plus (coefficient f) (coefficient g))
 
-unfoldable pub ring_difference : ℕ → ℕ → List ℕ → List ℕ → List ℕ
+unfoldable pub ring_difference : ℕ → ℕ → Coefficients → Coefficients → Coefficients
 ring_difference q n f g = residues q n (minus (coefficient f) (coefficient g))
 
-unfoldable pub ring_negative : ℕ → ℕ → List ℕ → List ℕ
+unfoldable pub ring_negative : ℕ → ℕ → Coefficients → Coefficients
 ring_negative q n f = residues q n (negated (coefficient f))
 
 -- k times f
-unfoldable pub ring_multiple : ℕ → ℕ → ℕ → List ℕ → List ℕ
+unfoldable pub ring_multiple : ℕ → ℕ → ℕ → Coefficients → Coefficients
 ring_multiple q n k f = residues q n (times (pos k) (coefficient f))
 
-unfoldable pub ring_product : ℕ → ℕ → List ℕ → List ℕ → List ℕ
+unfoldable pub ring_product : ℕ → ℕ → Coefficients → Coefficients → Coefficients
 ring_product q n f g = residues q n (wrapped n (coefficient f) (coefficient g))
 
 -- X becomes X^g
-unfoldable pub ring_turned : ℕ → ℕ → ℕ → List ℕ → List ℕ
+unfoldable pub ring_turned : ℕ → ℕ → ℕ → Coefficients → Coefficients
 ring_turned q n g f = residues q n (turned n g (coefficient f))
 
 -- ---- size
@@ -106,8 +112,12 @@ greatest [] = 0
 greatest (x ∷ xs) = max (unsigned_abs x) (greatest xs)
 
 -- the centres of a list of residues, and the greatest absolute value among them
-abbrev pub centres : ℕ → List ℕ → List ℤ
+abbrev pub centres : ℕ → Coefficients → List ℤ
 centres q f = map (centre q) f
 
-abbrev pub size : ℕ → List ℕ → ℕ
+abbrev pub size : ℕ → Coefficients → ℕ
 size q f = greatest (centres q f)
+
+-- the centres as a polynomial over the whole numbers
+abbrev pub centred : ℕ → Coefficients → ℕ → ℤ
+centred q f i = centre q (get_or f i 0)

@@ -1,8 +1,8 @@
 //! Small values worked out by hand, over the ring with n = 8, q = 31525197391593473 and t = 16, whose
 //! D is 1970324836974592.
 ghost use Rattle.std.specs.Prelude.{◌≡◌, ◌<◌, All, IfOk};
+ghost use Rattle.ring_spec.specs.Pairs.{CipherFits};
 ghost use Rattle.ring_spec.specs.Ring.{IsPoly};
-ghost use Rattle.bfv_core.specs.Fits.{CipherFits};
 
 use bfv_core::{Ciphertext, add, mul_plain, neg, round_phase, sub, trivial};
 use mod_ring::{Ring, of_signed};

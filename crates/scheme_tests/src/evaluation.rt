@@ -1,8 +1,8 @@
 //! Small circuits over inputs without noise, whose second part is zero, against plaintexts worked out by
 //! hand, at n = 8 and t = 16.
 ghost use Rattle.std.specs.Prelude.{◌≡◌, ◌<◌, All, IfOk, None};
+ghost use Rattle.ring_spec.specs.Pairs.{CipherFits};
 ghost use Rattle.circuit_form.specs.Circuits.{first_fault};
-ghost use Rattle.bfv_core.specs.Fits.{CipherFits};
 
 use bfv_core::{Ciphertext, round_phase, trivial};
 use circuit_form::{Circuit, Node, Plain};

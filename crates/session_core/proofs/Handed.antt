@@ -6,7 +6,7 @@ use Rattle.std.specs.declared.sync.Arc.{Arc}
 use Rattle.std.specs.Option.{option_map}
 use Rattle.std.proofs.lemmas.Bool.{not-true}
 use Rattle.std.proofs.lemmas.List.Elements.{All-contains}
-use Rattle.ring_spec.specs.Pairs.{Key}
+use Rattle.ring_spec.specs.Pairs.{Key, KeyFits}
 use Rattle.param_set.specs.declared.params.Params.{Params}
 use Rattle.proto_names.specs.Names.{is_void, rows_of}
 use Rattle.proto_names.specs.Instances.{instance}
@@ -50,7 +50,6 @@ use Rattle.ring_spec.specs.Ring.{IsPoly}
 use Rattle.draw_spec.specs.Streams.{instance_stream}
 use Rattle.bfv_spec.specs.Shares.{pk_from}
 use Rattle.bfv_laws.proofs.Draws.{uniform_poly_is}
-use Rattle.bfv_core.specs.Fits.{KeyFits}
 use Rattle.param_set.specs.Numbers.{digit_rows}
 use Rattle.instance_table.specs.declared.table.Table.{Table}
 use Rattle.session_laws.proofs.Keys.{key_found}

@@ -1,7 +1,6 @@
 -- What a session hands out, and what its readers tell.
 use Rattle.std.specs.Prelude.{◌≡◌, ℕ, ◌<◌, List, length, true, Some, None, IfSome, IsTrue}
-use Rattle.ring_spec.specs.Pairs.{Cipher}
-use Rattle.bfv_core.specs.Fits.{KeyFits}
+use Rattle.ring_spec.specs.Pairs.{Cipher, KeyFits}
 use Rattle.proto_names.specs.Instances.{instance}
 use Rattle.proto_names.specs.declared.instance.Instance.{Instance}
 use Rattle.party_roll.specs.Briefs.{IsBrief}

@@ -2,8 +2,7 @@
 use Rattle.std.specs.Prelude.{◌≡◌, ℕ, ◌-◌, ◌≤◌, ◌<◌, ◌^◌, Bool, List, [], length, true, All, is_some, unwrap_or, sum_by, vec_len, vec_capacity, Vec}
 use Rattle.std.specs.declared.alloc.Global.{Global}
 use Rattle.ring_spec.specs.Ring.{IsPoly}
-use Rattle.ring_spec.specs.Pairs.{Cipher}
-use Rattle.bfv_core.specs.Fits.{CipherFits}
+use Rattle.ring_spec.specs.Pairs.{Cipher, CipherFits}
 use Rattle.param_set.specs.declared.params.Params.{Params}
 use Rattle.circuit_form.specs.Circuits.{owners}
 use Rattle.share_spec.specs.Sets.{has}

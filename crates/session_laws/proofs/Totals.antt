@@ -9,7 +9,7 @@ use Rattle.std.proofs.lemmas.List.FromFn.{get_or-map-range_with_len, length-map-
 use Rattle.std.proofs.lemmas.List.Sorted.{IsPermutation-refl, IsPermutation-cons, IsPermutation-trans, IsPermutation-middle, IsPermutation-map}
 use Rattle.std.proofs.Math.Nat.{mod-eq_of_lt}
 use Rattle.ring_spec.specs.Ring.{residue, ring_sum}
-use Rattle.ring_laws.specs.Aggregate.{ring_total}
+use Rattle.ring_spec.specs.Aggregate.{ring_total}
 use Rattle.ring_laws.proofs.Residues.{residues_unique}
 use Rattle.ring_laws.proofs.Rings.{ring_sum_commutes}
 use Rattle.ring_laws.proofs.Aggregates.{total_permutation}

@@ -1,7 +1,7 @@
 -- The order in which shares are counted.
 use Rattle.std.specs.Prelude.{◌≡◌, ℕ, ◌<◌, List, [], slice_index_or, All, IsPermutation}
 use Rattle.ring_spec.specs.Ring.{IsPoly}
-use Rattle.ring_laws.specs.Aggregate.{ring_total}
+use Rattle.ring_spec.specs.Aggregate.{ring_total}
 use Rattle.param_set.specs.Numbers.{digit_rows}
 use Rattle.param_set.specs.declared.params.Params.{Params}
 use Rattle.proto_names.specs.Names.{rows_of}

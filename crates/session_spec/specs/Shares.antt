@@ -2,7 +2,7 @@
 use Rattle.std.specs.Prelude.{ℕ, List, [], ◌∷◌, map, slice_index_or}
 use Rattle.std.specs.List.{range_with_len}
 use Rattle.ring_spec.specs.Pairs.{Key}
-use Rattle.ring_laws.specs.Aggregate.{ring_total}
+use Rattle.ring_spec.specs.Aggregate.{ring_total}
 use Rattle.bfv_spec.specs.Shares.{honest_pk, pk_from}
 use Rattle.dec_spec.specs.Decrypting.{honest_dec}
 use Rattle.share_spec.specs.Sets.{members}

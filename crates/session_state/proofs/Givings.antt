@@ -4,8 +4,7 @@ use Rattle.std.specs.Prelude.{nat_lt}
 use Rattle.std.proofs.lemmas.Bool.{cases_eq, cases_lt, and_parts, ltb-true}
 use Rattle.std.proofs.lemmas.List.{get_or_past}
 use Rattle.std.proofs.Math.Seq.{map-set_same}
-use Rattle.ring_spec.specs.Pairs.{Cipher}
-use Rattle.bfv_core.specs.Fits.{CipherFits}
+use Rattle.ring_spec.specs.Pairs.{Cipher, CipherFits}
 use Rattle.param_set.specs.declared.params.Params.{Params}
 use Rattle.proto_names.specs.declared.instance.Instance.{Instance}
 use Rattle.session_rules.specs.declared.fixed.Plan.{Plan}

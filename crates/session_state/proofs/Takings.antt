@@ -6,8 +6,7 @@ use Rattle.std.specs.declared.sync.Arc.{Arc}
 use Rattle.std.proofs.lemmas.Bool.{both_ways, cases_eq}
 use Rattle.std.proofs.lemmas.List.{get_or-map, get_or-set_same, get_or-set_other, length-map}
 use Rattle.std.proofs.lemmas.List.Elements.{All-from_get_or, All-get_or}
-use Rattle.ring_spec.specs.Pairs.{Cipher}
-use Rattle.bfv_core.specs.Fits.{CipherFits}
+use Rattle.ring_spec.specs.Pairs.{Cipher, CipherFits}
 use Rattle.cipher_spec.specs.Ciphers.{no_cipher}
 use Rattle.param_set.specs.declared.params.Params.{Params}
 use Rattle.session_rules.specs.declared.fixed.Fixed.{Fixed}

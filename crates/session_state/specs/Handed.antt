@@ -1,6 +1,6 @@
 -- What is handed out: briefs and jobs.
 use Rattle.std.specs.Prelude.{◌≡◌, ◌⊎◌, ℕ, Bool, true, false, List, [], map, length, slice_index_or, All, None, IsSome}
-use Rattle.bfv_core.specs.Fits.{CipherFits}
+use Rattle.ring_spec.specs.Pairs.{CipherFits}
 use Rattle.param_set.specs.declared.params.Params.{Params}
 use Rattle.circuit_form.specs.Circuits.{first_fault, owners}
 use Rattle.cipher_spec.specs.Ciphers.{is_switch_free}

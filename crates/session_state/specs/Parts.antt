@@ -4,8 +4,7 @@ use Rattle.std.specs.Prelude.{◌≡◌, ℕ, ◌<◌, true, List, [], map, leng
 use Rattle.std.specs.declared.alloc.Global.{Global}
 use Rattle.std.specs.declared.sync.Arc.{Arc}
 use Rattle.ring_spec.specs.Ring.{IsPoly}
-use Rattle.ring_spec.specs.Pairs.{Cipher}
-use Rattle.bfv_core.specs.Fits.{CipherFits}
+use Rattle.ring_spec.specs.Pairs.{Cipher, CipherFits}
 use Rattle.param_set.specs.declared.params.Params.{Params}
 use Rattle.noise_ledger.specs.Bounds.{numbers_of}
 use Rattle.proto_names.specs.Instances.{instance}

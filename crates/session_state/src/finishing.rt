@@ -1,5 +1,5 @@
 ghost use Rattle.std.specs.Prelude.{◌≡◌, false, ◌<◌, ◌≤◌, length, slice_set, IfOk, OnOk, OnErr};
-ghost use Rattle.bfv_core.specs.Fits.{CipherFits};
+ghost use Rattle.ring_spec.specs.Pairs.{CipherFits};
 ghost use Rattle.instance_table.specs.Spare.{spare};
 ghost use Rattle.session_rules.specs.declared.reply.Reply.TheVariants as reply;
 ghost use Rattle.session_rules.specs.declared.deed.Deed.TheVariants.{Turns};

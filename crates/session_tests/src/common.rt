@@ -1,6 +1,6 @@
 //! What several tests begin with: a circuit, and a ciphertext.
 ghost use Rattle.std.specs.Prelude.{◌≡◌, length, All, IfOk, IfSome};
-ghost use Rattle.bfv_core.specs.Fits.{CipherFits};
+ghost use Rattle.ring_spec.specs.Pairs.{CipherFits};
 ghost use Rattle.session_spec.specs.Settings.{Keeps};
 
 use circuit_form::{Circuit, Node};

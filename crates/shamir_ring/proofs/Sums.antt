@@ -4,7 +4,7 @@ use Rattle.std.specs.Prelude.{pos, All, Result, Ok, Err, IfOk}
 use Rattle.std.proofs.lemmas.List.{get_or-replicate, length-replicate, take_more}
 use Rattle.std.proofs.Math.Nat.{mod-eq_of_lt}
 use Rattle.ring_spec.specs.Ring.{IsPoly, residue, residues, ring_sum}
-use Rattle.ring_laws.specs.Aggregate.{ring_total}
+use Rattle.ring_spec.specs.Aggregate.{ring_total}
 use Rattle.ring_laws.proofs.Residues.{residues_unique}
 use Rattle.ring_laws.proofs.Rings.{ring_sum_zero, ring_sum_commutes}
 use Rattle.ring_laws.proofs.Aggregates.{total_append}

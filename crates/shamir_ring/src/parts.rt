@@ -1,6 +1,6 @@
 ghost use Rattle.std.specs.Prelude.{◌≡◌, ℕ, ◌≤◌, All, List, length, IfOk};
 ghost use Rattle.ring_spec.specs.Ring.{IsPoly, ring_multiple, size};
-ghost use Rattle.ring_laws.specs.Aggregate.{ring_total};
+ghost use Rattle.ring_spec.specs.Aggregate.{ring_total};
 ghost use Rattle.share_spec.specs.Sets.{count};
 ghost use Rattle.share_spec.specs.Lagrange.{lagrange as coefficient_of};
 ghost use Rattle.share_spec.specs.Dealing.{secret, parts as parts_of};

@@ -1,7 +1,7 @@
 -- Worked instances: what the definitions give at small numbers, by computation.
 use Rattle.std.proofs.Common.{◌≡◌, [], ◌∷◌, false, refl}
 use Rattle.ring_spec.specs.Ring.{total, residue, residues, ring_sum, ring_multiple}
-use Rattle.ring_laws.specs.Aggregate.{ring_total}
+use Rattle.ring_spec.specs.Aggregate.{ring_total}
 use Rattle.share_spec.specs.Sets.{has, members_to, members}
 use Rattle.share_spec.specs.Lagrange.{is_quotient, quotient, ratio, product_over, lagrange}
 use Rattle.share_spec.specs.Dealing.{value_at}

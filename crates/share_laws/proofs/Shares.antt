@@ -9,7 +9,7 @@ use Rattle.std.proofs.Math.Nat.{pow-suc, pow-zero}
 use Rattle.param_set.specs.Numbers.{indivisible}
 use Rattle.ring_spec.specs.Ring.{total, coefficient, IsPoly, size}
 use Rattle.ring_laws.specs.Congruence.{IsCongruent}
-use Rattle.ring_laws.specs.Aggregate.{ring_total}
+use Rattle.ring_spec.specs.Aggregate.{ring_total}
 use Rattle.ring_laws.proofs.Integers.{sums, times_times, times_commutes, one_times, zero_times}
 use Rattle.ring_laws.proofs.Totals.{total_first, total_same, total_times}
 use Rattle.ring_laws.proofs.Congruences.{congruent_equal, congruent_self, congruent_back, congruent_chain, congruent_sum, congruent_product, agree_self}

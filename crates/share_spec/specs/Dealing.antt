@@ -2,7 +2,7 @@
 use Rattle.std.specs.Prelude.{ℕ, zero, suc, ◌+◌, ◌*◌, ◌^◌, List, [], map, length, get_or, ℤ, pos, ◌*ℤ◌}
 use Rattle.std.specs.List.{range_with_len}
 use Rattle.ring_spec.specs.Ring.{total, residues, coefficient, ring_multiple}
-use Rattle.ring_laws.specs.Aggregate.{ring_total}
+use Rattle.ring_spec.specs.Aggregate.{ring_total}
 use Rattle.draw_spec.specs.Streams.{part_stream}
 use Rattle.bfv_spec.specs.Drawn.{ternary_poly, uniform_poly}
 use Rattle.share_spec.specs.Sets.{members}

@@ -7,7 +7,7 @@ use Rattle.std.proofs.lemmas.Option.{slice_get_within}
 use lib.Count.{count_leading_zeros}
 use Rattle.ring_spec.specs.Ring.{residue, residues, ring_sum, ring_multiple}
 use Rattle.ring_spec.specs.Pairs.{Cipher, Key}
-use Rattle.ring_laws.specs.Aggregate.{ring_total}
+use Rattle.ring_spec.specs.Aggregate.{ring_total}
 use Rattle.bfv_spec.specs.Scheme.{encryption, trivial}
 use Rattle.bfv_spec.specs.Drawn.{uniform_poly, drawn_encryption}
 use Rattle.bfv_spec.specs.Shares.{pk_from}

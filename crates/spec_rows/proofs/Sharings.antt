@@ -1,7 +1,7 @@
 -- Three of four parties, modulo 97 with two coefficients: what is dealt by a polynomial of degree 2 in the point.
 use Rattle.std.proofs.Common.{◌≡◌, ℕ, List, [], ◌∷◌, false, refl}
 use Rattle.ring_spec.specs.Ring.{total, residue, residues, ring_sum, ring_multiple}
-use Rattle.ring_laws.specs.Aggregate.{ring_total}
+use Rattle.ring_spec.specs.Aggregate.{ring_total}
 use Rattle.share_spec.specs.Sets.{has, members_to, members, count}
 use Rattle.share_spec.specs.Lagrange.{is_quotient, quotient, ratio, product_over, lagrange}
 use Rattle.share_spec.specs.Dealing.{own_part, dealing_at, dealing, value_at, dealt, share, secret, part, parts}

@@ -3,7 +3,7 @@ use Rattle.std.proofs.Common.{◌≡◌, ℕ, List, [], ◌∷◌, ◌++◌, Som
 use lib.Count.{count_leading_zeros}
 use Rattle.ring_spec.specs.Ring.{residue, residues, ring_sum, ring_multiple}
 use Rattle.ring_spec.specs.Pairs.{Cipher, Key}
-use Rattle.ring_laws.specs.Aggregate.{ring_total}
+use Rattle.ring_spec.specs.Aggregate.{ring_total}
 use Rattle.bfv_spec.specs.Scheme.{trivial, decryption, cipher_sum}
 use Rattle.bfv_spec.specs.Drawn.{drawn_encryption}
 use Rattle.bfv_spec.specs.Shares.{honest_pk, pk_from}

@@ -5,11 +5,10 @@ use Rattle.std.proofs.lemmas.Bool.{cases_lt}
 use Rattle.std.proofs.lemmas.Int.{unsigned_abs-mul}
 use Rattle.std.proofs.lemmas.Nat.{mul-le}
 use Rattle.std.proofs.lemmas.List.{get_or-map}
-use Rattle.ring_spec.specs.Ring.{wrapped, centre, plus, minus, times, coefficient, size, IsWithin, IsPoly, ring_difference, ring_multiple}
+use Rattle.ring_spec.specs.Ring.{wrapped, centre, plus, minus, times, coefficient, size, IsWithin, IsPoly, ring_difference, ring_multiple, centred}
 use Rattle.ring_spec.specs.Pairs.{Cipher}
 use Rattle.bfv_spec.specs.Scheme.{delta, remainder, phase}
-use Rattle.ring_laws.specs.Congruence.{Agree, centred}
-use Rattle.tensor_spec.specs.Tensors.{lifted}
+use Rattle.ring_laws.specs.Congruence.{Agree}
 use Rattle.tensor_laws.specs.Products.{wraps, IsFactor}
 use Rattle.ring_laws.proofs.Integers.{sums, abs_sum, abs_negative}
 use Rattle.ring_laws.proofs.Congruences.{agree_equal, agree_self, agree_chain, agree_back, agree_sum, agree_product}
@@ -20,24 +19,17 @@ use Rattle.gadget_laws.proofs.Digits.{centre_half}
 use Rattle.gadget_laws.proofs.Phases.{phase_agrees}
 use Rattle.tensor_laws.proofs.Numbers.{factor_is, wraps_within}
 
--- ---- lifts
+-- ---- centres
 
--- a lift at a place is the centre there
-lifted_at : (q n : ℕ) (f : List ℕ) (i : ℕ) → IsPoly q n f → i < n → lifted q f i ≡ centre q (get_or f i 0)
-lifted_at q n f i p l = get_or-map (centre q) f i 0 (pos 0) (omega (arith, p.entries))
-
-pub lifted_agrees : (q n : ℕ) (f : List ℕ) → IsPoly q n f → Agree q n (coefficient f) (lifted q f)
-lifted_agrees q n f p = agree_chain (centred_agrees q n f) (agree_equal q n (centred q f) (lifted q f) (λ i l. sym (lifted_at q n f i p l)))
-
-pub lifted_within : (q n : ℕ) (f : List ℕ) → IsPoly q n f → IsWithin n (q / 2) (lifted q f)
-lifted_within q n f p i l =
-    omega (arith, centre_half q (get_or f i 0) (entry_below q n f i p l), ap unsigned_abs (lifted_at q n f i p l))
+-- a centre is at most half of the modulus
+pub centre_within : (q n : ℕ) (f : List ℕ) → IsPoly q n f → IsWithin n (q / 2) (centred q f)
+centre_within q n f p i l = omega (arith, centre_half q (get_or f i 0) (entry_below q n f i p l))
 
 -- ---- factors
 
 -- the phase of a ciphertext over the whole numbers
-abbrev pub lifted_phase : ℕ → ℕ → List ℕ → Cipher → ℕ → ℤ
-lifted_phase q n s c = plus (lifted q c.c0) (wrapped n (lifted q c.c1) (centred q s))
+abbrev pub centred_phase : ℕ → ℕ → List ℕ → Cipher → ℕ → ℤ
+centred_phase q n s c = plus (centred q c.c0) (wrapped n (centred q c.c1) (centred q s))
 
 pub record Factor (q n t a y : ℕ) (p : ℕ → ℤ) (m : List ℕ) : Type 0 where
   pub whole : ℕ → ℤ
@@ -64,16 +56,16 @@ multiple_of q n a b c = record { by = λ i. choice i (cases_lt i n); is = λ i l
     chosen i l (inr l') = absurd (omega arith)
 
 pub factor_of : (q n t w v : ℕ) (s : List ℕ) (c : Cipher) (m : List ℕ) → 0 < q → 0 < t → IsPoly q n s → size q s ≤ w → IsFactor q n t s v c m →
-    Factor q n t (t * (wraps n w + 1) - 1) (t * v + remainder q t * (t - 1)) (lifted_phase q n s c) m
+    Factor q n t (t * (wraps n w + 1) - 1) (t * v + remainder q t * (t - 1)) (centred_phase q n s c) m
 factor_of q n t w v s c m h ht ps ls it =
     let D = delta q t in let r = remainder q t in
-    let C0 = lifted q c.c0 in let C1 = lifted q c.c1 in let S = centred q s in
+    let C0 = centred q c.c0 in let C1 = centred q c.c1 in let S = centred q s in
     let M = coefficient m in let F = coefficient (phase q n s c) in
-    let P = lifted_phase q n s c in
+    let P = centred_phase q n s c in
     let noise = ring_difference q n (phase q n s c) (ring_multiple q n D m) in
     let E = centred q noise in
     let at_phase : Agree q n F P =
-    agree_chain (phase_agrees c s h (lifted_agrees q n c.c0 it.fits.c0) (lifted_agrees q n c.c1 it.fits.c1))
+    agree_chain (phase_agrees c s h (centred_agrees q n c.c0) (centred_agrees q n c.c1))
     (agree_sum (agree_self q n C0) (agree_product (agree_self q n C1) (centred_agrees q n s))) in
     let at_noise : Agree q n (minus F (times (pos D) M)) E =
     agree_chain (agree_back (difference_agrees (phase q n s c) (ring_multiple q n D m) h (agree_self q n F) (multiple_agrees D m h (agree_self q n M)))) (centred_agrees q n noise) in
@@ -82,8 +74,8 @@ factor_of q n t w v s c m h ht ps ls it =
     let half = q / 2 in
     let little : IsWithin n v E = within_more n (size q noise) v E it.carries.noise (centred_within q n noise (difference_poly q n (phase q n s c) (ring_multiple q n D m) h)) in
     let few : IsWithin n (half + n * half * w) P =
-    within_sum n half (n * half * w) C0 (wrapped n C1 S) (lifted_within q n c.c0 it.fits.c0)
-    (within_product n half w C1 S (lifted_within q n c.c1 it.fits.c1) (within_more n (size q s) w S ls (centred_within q n s ps))) in
+    within_sum n half (n * half * w) C0 (wrapped n C1 S) (centre_within q n c.c0 it.fits.c0)
+    (within_product n half w C1 S (centre_within q n c.c1 it.fits.c1) (within_more n (size q s) w S ls (centred_within q n s ps))) in
     let bound : 2 * (half + n * half * w) ≤ q * (1 + n * w) =
     (let e : 2 * half * (1 + n * w) ≤ q * (1 + n * w) = mul-le (2 * half) (1 + n * w) q (1 + n * w) (omega arith) (omega arith) in omega (arith, e)) in
     let wrapped_few : IsWithin n (wraps n w) off.by =

@@ -2,13 +2,13 @@
 use Rattle.std.proofs.Common.{◌≡◌, ℕ, ◌+◌, ◌-◌, ◌*◌, ◌/◌, ◌≤◌, ◌<◌, List, get_or, ap, ◌∙◌, arith}
 use Rattle.std.specs.Prelude.{ℤ, pos, ◌+ℤ◌, ◌-ℤ◌, ◌*ℤ◌}
 use Rattle.std.proofs.lemmas.Nat.{mul-le}
-use Rattle.ring_spec.specs.Ring.{wrapped, plus, minus, times, coefficient, size, IsWithin, IsPoly, ring_difference, ring_multiple, ring_product}
+use Rattle.ring_spec.specs.Ring.{wrapped, plus, minus, times, coefficient, size, IsWithin, IsPoly, ring_difference, ring_multiple, ring_product, centred}
 use Rattle.ring_spec.specs.Pairs.{Cipher}
 use Rattle.bfv_spec.specs.Scheme.{delta, remainder, phase}
-use Rattle.ring_laws.specs.Congruence.{Agree, centred}
+use Rattle.ring_laws.specs.Congruence.{Agree}
 use Rattle.gadget_laws.specs.Switching.{switch_noise}
 use Rattle.tensor_spec.specs.Rounding.{nearest}
-use Rattle.tensor_spec.specs.Tensors.{lifted, scaled, rescaled, tensor, triple_phase, relinearisation}
+use Rattle.tensor_spec.specs.Tensors.{scaled, rescaled, tensor, triple_phase, relinearisation}
 use Rattle.tensor_laws.specs.Rounding.{off}
 use Rattle.tensor_laws.specs.Products.{wraps, crossed, tensor_noise, IsFactor, TensorsCarry, ProductsCarry}
 use Rattle.ring_laws.proofs.Integers.{sums}
@@ -19,7 +19,7 @@ use Rattle.ring_laws.proofs.Sizes.{size_within, within_sum, within_more, within_
 use Rattle.tensor_laws.proofs.Rounding.{nearest_is_near}
 use Rattle.tensor_laws.proofs.Relinearising.{tensors_fit, triple_phase_agrees, relinearised}
 use Rattle.tensor_laws.proofs.Numbers.{product_is, product_within}
-use Rattle.tensor_laws.proofs.Factors.{factor_of, lifted_phase, multiple_of}
+use Rattle.tensor_laws.proofs.Factors.{factor_of, centred_phase, multiple_of}
 use Rattle.tensor_laws.proofs.Expansions.{of_three, three_is, gap, rounded_is, squared_is}
 
 -- what rounding is off by is at most a half of q
@@ -39,7 +39,7 @@ tensor_carried q n t w v1 v2 s c d m l h ht ps ls one two =
     let D = delta q t in let r = remainder q t in let half = q / 2 in
     let S = centred q s in let SS = wrapped n S S in
     let left = factor_of q n t w v1 s c m h ht ps ls one in let right = factor_of q n t w v2 s d l h ht ps ls two in
-    let C0 = lifted q c.c0 in let C1 = lifted q c.c1 in let D0 = lifted q d.c0 in let D1 = lifted q d.c1 in
+    let C0 = centred q c.c0 in let C1 = centred q c.c1 in let D0 = centred q d.c0 in let D1 = centred q d.c1 in
     let X0 = wrapped n C0 D0 in let X1 = plus (wrapped n C0 D1) (wrapped n C1 D0) in let X2 = wrapped n C1 D1 in
     let O0 = scaled q t X0 in let O1 = scaled q t X1 in let O2 = scaled q t X2 in
     let x = tensor q n t c d in let f = triple_phase q n s x in
@@ -72,11 +72,11 @@ tensor_carried q n t w v1 v2 s c d m l h ht ps ls one two =
       noise = Z;
       agrees = agree_chain (agree_difference at_f (agree_self q n (times (pos D) M))) (record { each = λ i p. record { k = whole.by i; is = omega (arith, sums) } });
       within = λ i p.
-          let P = wrapped n (lifted_phase q n s c) (lifted_phase q n s d) i in
+          let P = wrapped n (centred_phase q n s c) (centred_phase q n s d) i in
           let rounded : pos q *ℤ T i ≡ pos t *ℤ P +ℤ d_all i =
           rounded_is q t n S O0 O1 O2 X0 X1 X2 i p ∙ ap (λ (u : ℤ). pos t *ℤ u +ℤ d_all i) (three_is n S C0 C1 D0 D1 i p) in
           let is = product_is q t (get_or ml i 0) (T i) P (wrapped n left.whole right.whole i) (X i) (Y i) (d_all i) (whole.by i) ht rounded
-          (squared_is q t n (lifted_phase q n s c) (lifted_phase q n s d) left.whole right.whole left.rest right.rest left.split right.split i p) (whole.is i p) in
+          (squared_is q t n (centred_phase q n s c) (centred_phase q n s d) left.whole right.whole left.rest right.rest left.split right.split i p) (whole.is i p) in
           let most = product_within q t r n a k y1 y2 z (get_or ml i 0) (Z i) (X i) (Y i) (d_all i) h ht (omega arith) (entry_below t n ml i (product_poly t n m l ht) p)
           (omega arith) (omega arith) (omega (arith, two.small)) (omega arith) (x_within i p) (y_within i p) (omega (arith, d_within i p, d_most)) is in
           let same : n * k * (y1 + y2) ≡ crossed q n t w v1 v2 = ap (λ (u : ℕ). n * k * u) (omega arith) in

@@ -1,12 +1,12 @@
 -- Relinearisation: the phase of the triple, and what the switch adds.
 use Rattle.std.proofs.Common.{ℕ, ◌<◌, List, arith}
 use Rattle.std.specs.Prelude.{ℤ}
-use Rattle.ring_spec.specs.Ring.{wrapped, plus, minus, coefficient, IsWithin, IsPoly, ring_sum, ring_difference, ring_product}
+use Rattle.ring_spec.specs.Ring.{wrapped, plus, minus, coefficient, IsWithin, IsPoly, ring_sum, ring_difference, ring_product, centred}
 use Rattle.ring_spec.specs.Pairs.{Cipher}
 use Rattle.bfv_spec.specs.Scheme.{cipher_sum, phase}
 use Rattle.gadget_spec.specs.Digits.{Gadget, Serves}
 use Rattle.gadget_spec.specs.Switching.{KeyRow, IsSwitchKey, key_switch}
-use Rattle.tensor_spec.specs.Tensors.{Triple, rescaled, lifted, scaled, tensor, triple_phase, relinearisation}
+use Rattle.tensor_spec.specs.Tensors.{Triple, rescaled, scaled, tensor, triple_phase, relinearisation}
 use Rattle.ring_laws.specs.Congruence.{Agree}
 use Rattle.gadget_laws.specs.Switching.{switch_noise}
 use Rattle.tensor_laws.specs.Relinearising.{TensorsFit, RelinearisationsFit, RelinearisationsAddLittle}
@@ -22,9 +22,9 @@ use Rattle.gadget_laws.proofs.Switches.{switch_is}
 pub tensors_fit : TensorsFit
 unfolding tensor rescaled
 tensors_fit q n t c d h = record {
-  o0 = residues_poly q n (scaled q t (wrapped n (lifted q c.c0) (lifted q d.c0))) h;
-  o1 = residues_poly q n (scaled q t (plus (wrapped n (lifted q c.c0) (lifted q d.c1)) (wrapped n (lifted q c.c1) (lifted q d.c0)))) h;
-  o2 = residues_poly q n (scaled q t (wrapped n (lifted q c.c1) (lifted q d.c1))) h;
+  o0 = residues_poly q n (scaled q t (wrapped n (centred q c.c0) (centred q d.c0))) h;
+  o1 = residues_poly q n (scaled q t (plus (wrapped n (centred q c.c0) (centred q d.c1)) (wrapped n (centred q c.c1) (centred q d.c0)))) h;
+  o2 = residues_poly q n (scaled q t (wrapped n (centred q c.c1) (centred q d.c1))) h;
 }
 
 pub relinearisations_fit : RelinearisationsFit

@@ -1,10 +1,10 @@
 -- What a product of two ciphertexts carries, and within which noise, where the secret has size at most w.
 use Rattle.std.specs.Prelude.{ℕ, ◌+◌, ◌-◌, ◌*◌, ◌/◌, ◌<◌, ◌≤◌, List}
 use Rattle.ring_spec.specs.Ring.{IsPoly, ring_product, size}
-use Rattle.ring_spec.specs.Pairs.{Cipher}
+use Rattle.ring_spec.specs.Pairs.{Cipher, CipherFits}
 use Rattle.bfv_spec.specs.Scheme.{remainder, Carries}
 use Rattle.gadget_spec.specs.Digits.{Gadget, Serves}
-use Rattle.gadget_spec.specs.Switching.{KeyRow, IsSwitchKey, IsCipher}
+use Rattle.gadget_spec.specs.Switching.{KeyRow, IsSwitchKey}
 use Rattle.gadget_laws.specs.Switching.{switch_noise}
 use Rattle.tensor_spec.specs.Tensors.{TripleCarries, tensor, relinearisation}
 
@@ -26,7 +26,7 @@ tensor_noise q n t w v1 v2 = crossed q n t w v1 v2 + rounding n w
 
 -- a ciphertext of the ring carries a plaintext within a noise that is small enough to be decrypted
 pub record IsFactor (q n t : ℕ) (s : List ℕ) (v : ℕ) (c : Cipher) (m : List ℕ) : Type 0 where
-  pub fits : IsCipher q n c
+  pub fits : CipherFits q n c
   pub plain : IsPoly t n m
   pub carries : Carries q n t s v c m
   pub small : 2 * t * v + 2 * remainder q t * (t - 1) < q

@@ -1,10 +1,10 @@
 -- What relinearisation adds to the phase of a triple.
 use Rattle.std.specs.Prelude.{ℕ, ◌<◌, ◌≤◌, List}
 use Rattle.ring_spec.specs.Ring.{IsPoly, ring_difference, ring_product, size}
-use Rattle.ring_spec.specs.Pairs.{Cipher}
+use Rattle.ring_spec.specs.Pairs.{Cipher, CipherFits}
 use Rattle.bfv_spec.specs.Scheme.{phase}
 use Rattle.gadget_spec.specs.Digits.{Gadget, Serves}
-use Rattle.gadget_spec.specs.Switching.{KeyRow, IsSwitchKey, IsCipher}
+use Rattle.gadget_spec.specs.Switching.{KeyRow, IsSwitchKey}
 use Rattle.gadget_laws.specs.Switching.{switch_noise}
 use Rattle.tensor_spec.specs.Tensors.{Triple, IsTriple, tensor, triple_phase, relinearisation}
 
@@ -14,7 +14,7 @@ TensorsFit = (q n t : ℕ) (c d : Cipher) → 0 < q → IsTriple q n (tensor q n
 
 -- and so is what it is relinearised to
 abbrev pub RelinearisationsFit : Type 0
-RelinearisationsFit = (q n : ℕ) (g : Gadget) (key : List KeyRow) (x : Triple) → 0 < q → IsCipher q n (relinearisation q n g key x)
+RelinearisationsFit = (q n : ℕ) (g : Gadget) (key : List KeyRow) (x : Triple) → 0 < q → CipherFits q n (relinearisation q n g key x)
 
 -- the phase of a triple that is relinearised by a key for s^2 is the triple's, but for what the switch adds
 abbrev pub RelinearisationsAddLittle : Type 0

@@ -2,7 +2,7 @@
 -- ciphertexts of all.
 use Rattle.std.proofs.Common.{◌≡◌, ◌+◌, ◌≤◌, [], length, drop}
 use Rattle.std.specs.Prelude.{All}
-use Rattle.bfv_core.specs.Fits.{CipherFits}
+use Rattle.ring_spec.specs.Pairs.{CipherFits}
 use Rattle.circuit_form.specs.Circuits.{owners}
 use Rattle.cipher_spec.specs.Ciphers.{ciphers_from}
 use Rattle.circuit_runner.proofs.nodes.node_ciphers.Given as goal

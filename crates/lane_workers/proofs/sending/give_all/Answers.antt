@@ -1,7 +1,7 @@
 use Rattle.std.proofs.Common.{◌≡◌, ◌∙◌, sym, ap, subst, refl, ℕ, ◌+◌, ◌≤◌, List, map, drop, length, get_or, arith}
+use Rattle.ring_spec.specs.Pairs.{CipherFits}
 use Rattle.draw_spec.specs.Streams.{input_stream}
 use Rattle.bfv_spec.specs.Drawn.{drawn_encryption}
-use Rattle.bfv_core.specs.Fits.{CipherFits}
 use Rattle.noise_ledger.specs.Bounds.{numbers_of}
 use Rattle.param_set.specs.declared.params.Params.{Params}
 use Rattle.session_rules.specs.declared.call.Call.TheVariants as call

@@ -1,9 +1,8 @@
 use Rattle.std.proofs.Common.{◌≡◌, ◌∙◌, sym, ap, subst, refl, ℕ, true, List, [], ◌∷◌, All, map}
-use Rattle.ring_spec.specs.Pairs.{Key}
+use Rattle.ring_spec.specs.Pairs.{Key, KeyFits}
 use Rattle.std.specs.declared.alloc.Global.{Global}
 use Rattle.std.specs.declared.sync.Arc.{Arc}
 use Rattle.proto_names.specs.declared.signature.Signature.TheVariants.{Pk}
-use Rattle.bfv_core.specs.Fits.{KeyFits}
 use Rattle.session_rules.specs.declared.call.Call.TheVariants as call
 use Rattle.session_rules.specs.States.{State, has_done}
 use Rattle.session_rules.specs.Steps.{owed_inputs}

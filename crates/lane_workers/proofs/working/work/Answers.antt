@@ -1,7 +1,7 @@
 use Rattle.std.proofs.Common.{◌≡◌, ◌∙◌, sym, ap, subst, refl, [], ◌∷◌, Some, None}
+use Rattle.ring_spec.specs.Pairs.{CipherFits}
 use Rattle.noise_ledger.specs.Bounds.{numbers_of}
 use Rattle.param_set.specs.declared.params.Params.{Params}
-use Rattle.bfv_core.specs.Fits.{CipherFits}
 use Rattle.circuit_runner.specs.declared.job.Job.{Job}
 use Rattle.session_rules.specs.declared.call.Call.TheVariants as call
 use Rattle.session_rules.specs.declared.reply.Reply.TheVariants as reply

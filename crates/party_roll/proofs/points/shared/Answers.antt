@@ -4,7 +4,7 @@ use Rattle.std.specs.Prelude.{IfOk}
 use Rattle.std.proofs.lemmas.Grind.{common_steps}
 use Rattle.std.proofs.lemmas.List.Elements.{All-push, All-nil, All-same}
 use Rattle.ring_spec.specs.Ring.{IsPoly}
-use Rattle.ring_laws.specs.Aggregate.{ring_total}
+use Rattle.ring_spec.specs.Aggregate.{ring_total}
 use Rattle.party_roll.proofs.Dealt.{so_far-start, so_far-next, so_far-end}
 use Rattle.party_roll.proofs.points.shared.Goals as goal
 

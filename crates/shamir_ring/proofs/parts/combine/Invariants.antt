@@ -1,6 +1,6 @@
 use Rattle.std.proofs.Common.{◌≡◌, take}
 use Rattle.ring_spec.specs.Ring.{IsPoly}
-use Rattle.ring_laws.specs.Aggregate.{ring_total}
+use Rattle.ring_spec.specs.Aggregate.{ring_total}
 use Rattle.shamir_ring.proofs.parts.combine.Given as goal
 
 abbrev pub invariant-loop-f : goal.invariant-loop-f

@@ -1,7 +1,7 @@
 -- The parts sum to the secret, which is at most as large as there are parties.
 use Rattle.std.proofs.Common.{◌≡◌, ◌≤◌, ℕ, List, subst, sym, ap, ◌∙◌, arith}
 use Rattle.ring_spec.specs.Ring.{size}
-use Rattle.ring_laws.specs.Aggregate.{ring_total}
+use Rattle.ring_spec.specs.Aggregate.{ring_total}
 use Rattle.share_spec.specs.Dealing.{secret}
 use Rattle.share_laws.proofs.Shares.{parts_sum, secret_small}
 use Rattle.shamir_ring.proofs.Sums.{if_ok}
