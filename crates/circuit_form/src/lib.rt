@@ -17,6 +17,7 @@ mod reduced;
 mod rules;
 mod turns;
 mod values;
+mod wide_ring;
 
 pub use circuit::Circuit;
 pub use fault::CircuitFault;

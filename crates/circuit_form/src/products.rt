@@ -1,51 +1,56 @@
-ghost use Rattle.std.specs.Prelude.{◌≡◌, ◌<◌, ◌≤◌, length, IfOk};
-ghost use Rattle.ring_spec.specs.Ring.{IsPoly, residue, coefficient, wrapped, ring_product};
+ghost use Rattle.std.specs.Prelude.{◌≡◌, ℕ, ◌<◌, ◌≤◌, length, get_or, IfOk};
+ghost use Rattle.ring_spec.specs.Ring.{IsPoly, residue, centre, ring_product};
+ghost use Rattle.circuit_form.specs.Products.{wide_modulus};
 
-use crate::reduced::reduced;
+use crate::reduced::opposite;
+use crate::wide_ring::{MODULUS, WideRing};
+use mod_word::Modulus;
 use param_set::{Params, Plain};
 use std::alloc::{AllocError, Global};
 
-/// Coefficient k of f * g: at most 4096 terms below 2^35 are added up and taken away before the one
-/// division.
-fn product_coefficient(t: u64, f: &[u64], g: &[u64], k: usize) -> u64
-    requires modulus_low { 0 < t }
-    requires modulus_high { t ≤ 65537 }
-    requires few { length f.now ≤ 4096 }
-    requires left { IsPoly t (length f.now) f.now }
-    requires right { IsPoly t (length f.now) g.now }
-    requires place { k < length f.now }
-    ensures { result ≡ residue t (wrapped (length f.now) (coefficient f.now) (coefficient g.now) k) }
+/// The residue modulo t of the whole number whose residue in the wide ring is x.
+fn narrowed(t: &Modulus, x: u64) -> u64
+    requires { x < wide_modulus }
+    ensures { result ≡ residue t.now.q (centre wide_modulus x) }
 {
-    let n = f.len();
-    let (mut plus, mut minus) = (0u64, 0u64);
-    'terms: for i in 0..n {
-        if i <= k {
-            plus += f[i] * g[k - i];
-        } else {
-            minus += f[i] * g[k + n - i];
-        }
+    if 2 * x < MODULUS {
+        t.word(x)
+    } else {
+        opposite(t.q(), t.word(MODULUS - x))
     }
-    reduced(t, plus, minus)
 }
 
-/// f * g, a coefficient after the other.
-#[tactic(auto, using(crate::proofs::Residues::one_by_one), unfolding(ring_spec::specs::Ring::ring_product))]
+/// The same of each coefficient, in place.
+fn narrow(t: u64, coeffs: &mut [u64])
+    requires modulus_low { 1 ≤ t }
+    requires modulus_high { t ≤ 65537 }
+    requires residues { (k : ℕ) → k < length coeffs.old → get_or coeffs.old k 0 < wide_modulus }
+    ensures length { length coeffs.new ≡ length coeffs.old }
+    ensures narrowed { (k : ℕ) → k < length coeffs.old →
+        get_or coeffs.new k 0 ≡ residue t (centre wide_modulus (get_or coeffs.old k 0)) }
+{
+    let modulus = Modulus::new(t);
+    'places: for k in 0..coeffs.len() {
+        coeffs[k] = narrowed(&modulus, coeffs[k]);
+    }
+}
+
+/// f * g. Over the whole numbers a coefficient is at most 4096 * 65536^2 in absolute value, so that its
+/// residue in the wide ring tells it.
 pub(crate) fn product(
     alloc: Global,
     params: &Params,
+    wide: &WideRing,
     f: &Plain,
     g: &Plain,
 ) -> Result<Plain, AllocError>
+    requires wide { wide.now ≡ params.now.n }
     requires left { IsPoly params.now.t params.now.n f.now }
     requires right { IsPoly params.now.t params.now.n g.now }
     ensures value { IfOk result (λ h. h ≡ ring_product params.now.t params.now.n f.now g.now) }
     ensures fits { IfOk result (λ h. IsPoly params.now.t params.now.n h) }
 {
-    let (f, g) = (f.coeffs(), g.coeffs());
-    let t = params.t();
-    let mut coeffs = Vec::with_capacity(alloc, f.len())?;
-    'places: for k in 0..f.len() {
-        coeffs.push(product_coefficient(t, f, g, k))?;
-    }
+    let mut coeffs = wide.product(alloc, f.coeffs(), g.coeffs())?;
+    narrow(params.t(), coeffs.as_mut_slice());
     Ok(Plain::from_vec(coeffs))
 }

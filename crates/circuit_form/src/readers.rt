@@ -1,6 +1,7 @@
 ghost use Rattle.std.specs.Prelude.{◌≡◌, ◌≤◌, length};
-ghost use Rattle.std.specs.List.{slice_get};
+ghost use Rattle.std.specs.List.{slice_get, list_any};
 ghost use Rattle.circuit_form.specs.Circuits.{owners, is_const, is_full, is_turn};
+ghost use Rattle.circuit_form.specs.Products.{is_mul};
 
 use crate::node::Node;
 
@@ -9,6 +10,20 @@ fn is_const(nodes: &[Node], k: u32) -> bool
     ensures { result ≡ is_const (slice_get nodes.now k) }
 {
     matches!(nodes.get(k as usize), Some(Node::Const { value: _ }))
+}
+
+/// Whether a node is a product.
+fn is_mul(node: &Node) -> bool
+    ensures { result ≡ is_mul node.now }
+{
+    matches!(node, Node::Mul { left: _, right: _ })
+}
+
+/// Whether some node is a product.
+pub(crate) fn has_mul(nodes: &[Node]) -> bool
+    ensures { result ≡ list_any is_mul nodes.now }
+{
+    nodes.iter().any(|node| is_mul(node))
 }
 
 /// Whether a node is a product of two nodes neither of which is a constant.

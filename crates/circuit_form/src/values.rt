@@ -1,13 +1,17 @@
-ghost use Rattle.std.specs.Prelude.{◌≡◌, ◌+◌, ◌<◌, ◌≤◌, true, List, [], All, length, IfOk, None};
+ghost use Rattle.std.specs.Prelude.{◌≡◌, ◌+◌, ◌<◌, ◌≤◌, true, false, List, [], All, length, IfOk, IfSome, IfNone, None};
+ghost use Rattle.std.specs.List.{list_any};
 ghost use Rattle.ring_spec.specs.Ring.{IsPoly};
 ghost use Rattle.circuit_form.specs.Circuits.{may_stand, first_wrong, first_fault, owners};
 ghost use Rattle.circuit_form.specs.Values.{node_value, given_after, values_from, plain_value};
+ghost use Rattle.circuit_form.specs.Products.{is_mul};
 
 use crate::circuit::Circuit;
 use crate::node::Node;
 use crate::operations::{difference, negative, sum};
 use crate::products::product;
+use crate::readers::has_mul;
 use crate::turns::turn;
+use crate::wide_ring::WideRing;
 use param_set::{Params, Plain};
 use std::alloc::{AllocError, Global};
 
@@ -19,16 +23,32 @@ fn copy(alloc: Global, plain: &Plain) -> Result<Plain, AllocError>
     Ok(Plain::from_vec(coeffs))
 }
 
-/// The polynomial of a node: `done` are those of the nodes before it, `given` of which are inputs.
+/// The wide ring for the products among some nodes; none where there is no product.
+fn wide_ring(alloc: Global, params: &Params, nodes: &[Node]) -> Result<Option<WideRing>, AllocError>
+    ensures degree { IfOk result (λ wide. IfSome wide (λ n. n ≡ params.now.n)) }
+    ensures absent { IfOk result (λ wide. IfNone wide (list_any is_mul nodes.now ≡ false)) }
+{
+    if has_mul(nodes) {
+        Ok(Some(WideRing::new(alloc, params)?))
+    } else {
+        Ok(None)
+    }
+}
+
+/// The polynomial of a node: `done` are those of the nodes before it, `given` of which are inputs. A
+/// product takes the wide ring.
 #[tactic(auto, unfolding(crate::specs::Circuits::may_stand, crate::specs::Values::node_value, crate::specs::Values::given_after))]
 fn node_value(
     alloc: Global,
     params: &Params,
+    wide: &Option<WideRing>,
     inputs: &[Plain],
     done: &[Plain],
     given: usize,
     node: &Node,
 ) -> Result<Plain, AllocError>
+    requires degree { IfSome wide.now (λ n. n ≡ params.now.n) }
+    requires absent { IfNone wide.now (is_mul node.now ≡ false) }
     requires stands { may_stand params.now.n params.now.t params.now.parties (length done.now) node.now ≡ true }
     requires inputs { All (IsPoly params.now.t params.now.n) inputs.now }
     requires done { All (IsPoly params.now.t params.now.n) done.now }
@@ -52,12 +72,16 @@ fn node_value(
             &done[*right as usize],
         ),
         Node::Neg { of } => negative(alloc, params, &done[*of as usize]),
-        Node::Mul { left, right } => product(
-            alloc,
-            params,
-            &done[*left as usize],
-            &done[*right as usize],
-        ),
+        Node::Mul { left, right } => match wide {
+            Some(wide) => product(
+                alloc,
+                params,
+                wide,
+                &done[*left as usize],
+                &done[*right as usize],
+            ),
+            None => unreachable!(),
+        },
         Node::Rot { g, of } => turn(alloc, params, u64::from(*g), &done[*of as usize]),
     }
 }
@@ -75,13 +99,16 @@ fn given_after(given: usize, node: &Node) -> usize
     }
 }
 
-/// The polynomials of all nodes.
+/// The polynomials of all nodes. A product takes the wide ring.
 fn node_values(
     alloc: Global,
     params: &Params,
+    wide: &Option<WideRing>,
     nodes: &[Node],
     inputs: &[Plain],
 ) -> Result<Vec<Plain>, AllocError>
+    requires degree { IfSome wide.now (λ n. n ≡ params.now.n) }
+    requires absent { IfNone wide.now (list_any is_mul nodes.now ≡ false) }
     requires few { length nodes.now ≤ 256 }
     requires stand { first_wrong params.now.n params.now.t params.now.parties 0 nodes.now ≡ None }
     requires inputs { All (IsPoly params.now.t params.now.n) inputs.now }
@@ -93,7 +120,7 @@ fn node_values(
     let mut done = Vec::with_capacity(alloc, nodes.len())?;
     let mut given = 0usize;
     'nodes: for node in nodes {
-        let value = node_value(alloc, params, inputs, done.as_slice(), given, node)?;
+        let value = node_value(alloc, params, wide, inputs, done.as_slice(), given, node)?;
         given = given_after(given, node);
         done.push(value)?;
     }
@@ -116,7 +143,8 @@ pub fn plain_value(
     ensures value { IfOk result (λ v. v ≡ plain_value params.now.n params.now.t inputs.now circuit.now) }
     ensures fits { IfOk result (λ v. IsPoly params.now.t params.now.n v) }
 {
-    let mut values = node_values(alloc, params, &circuit.nodes, inputs)?;
+    let wide = wide_ring(alloc, params, &circuit.nodes)?;
+    let mut values = node_values(alloc, params, &wide, &circuit.nodes, inputs)?;
     match values.pop() {
         Some(last) => Ok(last),
         None => unreachable!(),

@@ -2,8 +2,12 @@
 use Rattle.std.proofs.Common.{◌<◌, length, arith, ◌∙◌}
 use Rattle.std.proofs.lemmas.Grind.{common_steps}
 use Rattle.circuit_form.specs.Values.{values_from}
-use Rattle.circuit_form.proofs.Steps.{stands_at, stands_past, enough_past, values_past}
+use Rattle.circuit_form.proofs.Steps.{absent_at, stands_at, stands_past, enough_past, values_past}
 use Rattle.circuit_form.proofs.values.node_values.Goals as goal
+
+pub node_value-requires-clause-absent : goal.node_value-requires-clause-absent
+node_value-requires-clause-absent c =
+    absent_at c.args.wide.now c.args.nodes.now c.nodes.node-index c.node-item.result (omega arith) c.node-item.is c.requires.absent
 
 pub node_value-requires-clause-stands : goal.node_value-requires-clause-stands
 node_value-requires-clause-stands c =
