@@ -1,5 +1,6 @@
 -- A draw at a place that is counted modulo 2^68 is the one at that place.
-use Rattle.std.proofs.Common.{◌≡◌, ℕ, ◌+◌, ◌%◌, ◌^◌, ◌≤◌, List, ap, sym, refl, ◌∙◌, arith}
+use Rattle.std.proofs.Common.{◌≡◌, ℕ, ◌+◌, ◌%◌, ◌^◌, ◌<◌, ◌≤◌, List, ℤ, ap, sym, refl, ◌∙◌, arith}
+use Rattle.std.specs.Prelude.{unsigned_abs}
 use Rattle.ring_spec.specs.Ring.{residue}
 use Rattle.draw_spec.specs.Draws.{word, uniform, small, wide, ternary, uniform_from, small_from, wide_from, ternary_from}
 use Rattle.word_tape.specs.Standing.{Standing, moved}
@@ -79,3 +80,8 @@ wide_entry q d s k = residue q (wide_from s.seed s.stream d s.next k)
 
 abbrev pub ternary_entry : ℕ → Standing → ℕ → ℕ
 ternary_entry q s k = residue q (ternary_from s.seed s.stream s.next k)
+
+-- ---- a draw within b is within a greater q
+
+pub drawn-within : (q b : ℕ) (x drawn : ℤ) → x ≡ drawn → unsigned_abs drawn ≤ b → b < q → unsigned_abs x < q
+drawn-within q b x drawn e h l = rw e (omega arith)

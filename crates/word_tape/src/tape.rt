@@ -103,6 +103,18 @@ impl Tape {
         (u64::from(self.word()) % (2 * bound + 1)) as i64 - bound as i64
     }
 
+    /// `small` where the modulus 2 * bound + 1 was made before, without a division.
+    #[inline]
+    #[tactic(auto, unfolding(draw_spec::specs::Draws::small))]
+    pub fn small_by(&mut self, bound: u64, choices: &Modulus) -> i64
+        requires few { bound ≤ 255 }
+        requires choices { choices.now.q ≡ 2 * bound + 1 }
+        ensures value { result ≡ small_of self.old.seed self.old.stream bound self.old.next }
+        ensures place { self.new ≡ moved self.old 1 }
+    {
+        choices.word(u64::from(self.word())) as i64 - bound as i64
+    }
+
     /// A number from -bound to bound: two words, the lower first, modulo 2 * bound + 1, less bound.
     #[tactic(auto, unfolding(draw_spec::specs::Draws::wide))]
     pub fn wide(&mut self, bound: u64) -> i64
@@ -111,6 +123,18 @@ impl Tape {
         ensures place { self.new ≡ moved self.old 2 }
     {
         (self.pair() % (2 * bound + 1)) as i64 - bound as i64
+    }
+
+    /// `wide` where the modulus 2 * bound + 1 was made before, without a division.
+    #[inline]
+    #[tactic(auto, unfolding(draw_spec::specs::Draws::wide))]
+    pub fn wide_by(&mut self, bound: u64, choices: &Modulus) -> i64
+        requires few { bound ≤ 2 ^ 40 }
+        requires choices { choices.now.q ≡ 2 * bound + 1 }
+        ensures value { result ≡ wide_of self.old.seed self.old.stream bound self.old.next }
+        ensures place { self.new ≡ moved self.old 2 }
+    {
+        choices.word(self.pair()) as i64 - bound as i64
     }
 
     /// -1, 0 or 1: a word modulo 3, less 1.

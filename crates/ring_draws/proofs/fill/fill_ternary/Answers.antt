@@ -4,9 +4,16 @@ use mir.Val.{SFits}
 use Rattle.std.proofs.lemmas.Int.{to_z-of_z}
 use Rattle.ring_spec.specs.Ring.{residue, residues}
 use Rattle.bfv_spec.specs.Drawn.{ternary_poly}
+use Rattle.bfv_laws.proofs.Draws.{ternary_within}
 use Rattle.mod_ring.proofs.Filled.{Filled-next, Filled-end}
-use Rattle.ring_draws.proofs.Steps.{Stands-next, ternary-here, ternary_entry}
+use Rattle.ring_draws.proofs.Steps.{Stands-next, drawn-within, ternary-here, ternary_entry}
 use Rattle.ring_draws.proofs.fill.fill_ternary.Goals as goal
+
+pub residue_within-requires : goal.residue_within-requires
+residue_within-requires c =
+    let now = c.loop-i.tape in
+    let fits : SFits w64 c.ternary.result = search rules in
+    drawn-within c.args.q 1 _ _ (to_z-of_z w64 c.ternary.result fits ∙ c.ternary.ensures.value) (ternary_within now.seed now.stream now.next) c.requires.modulus
 
 pub loop-i-preserved : goal.loop-i-preserved
 loop-i-preserved c =
@@ -15,7 +22,7 @@ loop-i-preserved c =
     let here = ternary-here s now c.loop-i.i c.loop-i.invariant.tape in
     let fits : SFits w64 c.ternary.result = search rules in
     record {
-      filled = Filled-next (ternary_entry c.args.q c.args.tape.now) c.args.entries.now c.loop-i.entries c.loop-i.i _ (omega arith) (c.residue_of.ensures ∙ ap (residue c.args.q) (to_z-of_z w64 c.ternary.result fits ∙ c.ternary.ensures.value ∙ here)) c.loop-i.invariant.filled;
+      filled = Filled-next (ternary_entry c.args.q c.args.tape.now) c.args.entries.now c.loop-i.entries c.loop-i.i _ (omega arith) (c.residue_within.ensures ∙ ap (residue c.args.q) (to_z-of_z w64 c.ternary.result fits ∙ c.ternary.ensures.value ∙ here)) c.loop-i.invariant.filled;
       tape = Stands-next s now c.ternary.new.self c.loop-i.i (c.loop-i.i + 1) 1 c.loop-i.invariant.tape c.ternary.ensures.place (omega arith);
     }
 

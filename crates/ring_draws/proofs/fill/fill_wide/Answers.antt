@@ -4,19 +4,26 @@ use mir.Val.{SFits}
 use Rattle.std.proofs.lemmas.Int.{to_z-of_z}
 use Rattle.ring_spec.specs.Ring.{residue, residues}
 use Rattle.bfv_spec.specs.Drawn.{wide_poly}
+use Rattle.bfv_laws.proofs.Draws.{wide_within}
 use Rattle.mod_ring.proofs.Filled.{Filled-next, Filled-end}
-use Rattle.ring_draws.proofs.Steps.{Stands-next, wide-here, wide_entry}
+use Rattle.ring_draws.proofs.Steps.{Stands-next, drawn-within, wide-here, wide_entry}
 use Rattle.ring_draws.proofs.fill.fill_wide.Goals as goal
+
+pub residue_within-requires : goal.residue_within-requires
+residue_within-requires c =
+    let now = c.loop-i.tape in
+    let fits : SFits w64 c.wide_by.result = search rules in
+    drawn-within c.args.q c.args.bound _ _ (to_z-of_z w64 c.wide_by.result fits ∙ c.wide_by.ensures.value) (wide_within now.seed now.stream c.args.bound now.next) c.requires.modulus
 
 pub loop-i-preserved : goal.loop-i-preserved
 loop-i-preserved c =
     let s = c.args.tape.now in
     let now = c.loop-i.tape in
     let here = wide-here s now (2 * c.loop-i.i) c.args.bound c.loop-i.invariant.tape in
-    let fits : SFits w64 c.wide.result = search rules in
+    let fits : SFits w64 c.wide_by.result = search rules in
     record {
-      filled = Filled-next (wide_entry c.args.q c.args.bound c.args.tape.now) c.args.entries.now c.loop-i.entries c.loop-i.i _ (omega arith) (c.residue_of.ensures ∙ ap (residue c.args.q) (to_z-of_z w64 c.wide.result fits ∙ c.wide.ensures.value ∙ here)) c.loop-i.invariant.filled;
-      tape = Stands-next s now c.wide.new.self (2 * c.loop-i.i) (2 * (c.loop-i.i + 1)) 2 c.loop-i.invariant.tape c.wide.ensures.place (omega arith);
+      filled = Filled-next (wide_entry c.args.q c.args.bound c.args.tape.now) c.args.entries.now c.loop-i.entries c.loop-i.i _ (omega arith) (c.residue_within.ensures ∙ ap (residue c.args.q) (to_z-of_z w64 c.wide_by.result fits ∙ c.wide_by.ensures.value ∙ here)) c.loop-i.invariant.filled;
+      tape = Stands-next s now c.wide_by.new.self (2 * c.loop-i.i) (2 * (c.loop-i.i + 1)) 2 c.loop-i.invariant.tape c.wide_by.ensures.place (omega arith);
     }
 
 pub returns-clause-value : goal.returns-clause-value
