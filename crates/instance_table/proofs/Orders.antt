@@ -12,7 +12,7 @@ use Rattle.ring_spec.specs.Aggregate.{ring_total}
 use Rattle.ring_laws.proofs.Residues.{residues_unique, sum_poly}
 use Rattle.ring_laws.proofs.Rings.{ring_sum_zero, ring_sum_commutes, ring_sum_associates}
 use Rattle.ring_laws.proofs.Aggregates.{total_poly, total_permutation}
-use Rattle.param_set.specs.Numbers.{digit_rows}
+use Rattle.param_set.specs.Moduli.{digit_rows}
 use Rattle.param_set.specs.declared.params.Params.{Params}
 use Rattle.proto_names.specs.Names.{rows_of}
 use Rattle.proto_names.specs.declared.signature.Signature.{Signature}

@@ -6,7 +6,7 @@ use Rattle.std.specs.declared.alloc.Global.{Global}
 use Rattle.std.specs.declared.sync.Arc.{Arc}
 use Rattle.ring_spec.specs.Ring.{ring_sum}
 use Rattle.param_set.specs.declared.params.Params.{Params}
-use Rattle.param_set.specs.Numbers.{digit_rows}
+use Rattle.param_set.specs.Moduli.{digit_rows}
 use Rattle.proto_names.specs.Names.{rows_of, is_void}
 use Rattle.proto_names.specs.Instances.{instance, lacks, missing}
 use Rattle.proto_names.specs.declared.signature.Signature.{Signature}

@@ -1,7 +1,7 @@
 -- The bound on the noise of a node, one row a kind of node. All numbers are whole, and each division
 -- by 2 is exact, since n is even. docs/MATHEMATICS.md, 'Noise bounds', has the argument.
 use Rattle.std.specs.Prelude.{ℕ, ◌+◌, ◌-◌, ◌*◌, ◌/◌, ◌%◌, ◌^◌}
-use Rattle.param_set.specs.Numbers.{noise_limit, digit_rows}
+use Rattle.param_set.specs.Moduli.{noise_limit, digit_rows}
 use Rattle.param_set.specs.declared.params.Params.{Params}
 
 -- ---- the numbers that bounds are made of

@@ -5,7 +5,7 @@ use Rattle.std.proofs.Math.Nat.{pow-le-pow_right, le-mul_of_pos_right}
 use Rattle.std.proofs.lemmas.Nat.{leading_top, mul-le}
 use Rattle.std.proofs.lemmas.Bool.{cases_lt}
 use Rattle.std.proofs.lemmas.Grind.{div_ceil_times}
-use Rattle.param_set.specs.Numbers.{binary_digits}
+use Rattle.param_set.specs.Moduli.{binary_digits}
 
 pub digits_around : (q r : ℕ) → 0 < q → q < 2 ^ 64 → r ≡ binary_digits q → (q < 2 ^ r) × (2 ^ (r - 1) ≤ q)
 digits_around q r some word e =

@@ -4,7 +4,7 @@ use Rattle.std.specs.Prelude.{Bool, Option, None, Some, IsTrue, not, nat_eq, nat
 use Rattle.std.specs.Int.{is_power_of_two}
 use Rattle.std.proofs.lemmas.Bool.{and_parts, eqb-true, leb-true}
 use Rattle.std.proofs.lemmas.Option.{none-some}
-use Rattle.param_set.specs.Numbers.{indivisible}
+use Rattle.param_set.specs.Moduli.{indivisible}
 use Rattle.param_set.specs.Rules.{within, is_degree, is_modulus, first_bad}
 use Rattle.param_set.specs.declared.raw.RawParams.{RawParams}
 use Rattle.param_set.specs.declared.raw.Field.{Field}

@@ -1,3 +1,4 @@
 pub mod Faults
+pub mod Moduli
 pub mod Numbers
 pub mod Rules

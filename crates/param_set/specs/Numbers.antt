@@ -1,20 +1,29 @@
--- What is asked of the numbers of a session, and the limit of noise that follows from them.
-use Rattle.std.specs.Int.{leading_zeros, div_ceil, w64}
-use Rattle.std.specs.Prelude.{ℕ, zero, suc, ◌+◌, ◌-◌, ◌*◌, ◌/◌, ◌%◌, Bool, true, not, nat_eq, ◌&&◌}
+-- The numbers of a session as one record, for definitions that rest on them.
+use Rattle.std.specs.Prelude.{ℕ, Bool}
+use Rattle.param_set.specs.declared.params.Params.{Params}
 
--- none of 2, 3, .., k + 1 divides q, so q has no common divisor above 1 with any of them
-unfoldable pub indivisible : ℕ → ℕ → Bool
-indivisible q zero = true
-indivisible q (suc k) = indivisible q k && not (nat_eq (q % (k + 2)) 0)
+-- n, q, t, b, whether digits are balanced, B, D_f, N and T, in this order
+pub record Numbers : Type 0 where
+  pub n : ℕ
+  pub q : ℕ
+  pub t : ℕ
+  pub digit_bits : ℕ
+  pub balanced : Bool
+  pub err : ℕ
+  pub flood : ℕ
+  pub parties : ℕ
+  pub threshold : ℕ
 
--- the greatest size of noise under which decryption modulo t gives the plaintext
-abbrev pub noise_limit : ℕ → ℕ → ℕ
-noise_limit q t = (q - 1 - 2 * (q % t) * (t - 1)) / (2 * t)
-
--- how many binary digits q has
-abbrev pub binary_digits : ℕ → ℕ
-binary_digits q = 64 - leading_zeros w64 q
-
--- l, how many digits of so many bits a residue modulo q takes
-abbrev pub digit_rows : ℕ → ℕ → ℕ
-digit_rows q digit_bits = div_ceil (binary_digits q) digit_bits
+-- those of checked parameters
+abbrev pub numbers_of : Params → Numbers
+numbers_of p = record {
+  n = p.n;
+  q = p.q;
+  t = p.t;
+  digit_bits = p.digit_bits;
+  balanced = p.balanced;
+  err = p.err;
+  flood = p.flood;
+  parties = p.parties;
+  threshold = p.threshold;
+}

@@ -1,7 +1,7 @@
 -- The rules that the given numbers of a session have to keep, one a field.
 use Rattle.std.specs.Prelude.{◌≡◌, ℕ, ◌-◌, ◌*◌, ◌/◌, ◌%◌, ◌^◌, ◌≤◌, Bool, Option, None, Some, not, nat_eq, nat_le, ◌&&◌, if◌then◌else◌}
 use Rattle.std.specs.Int.{is_power_of_two}
-use Rattle.param_set.specs.Numbers.{indivisible}
+use Rattle.param_set.specs.Moduli.{indivisible}
 use Rattle.param_set.specs.declared.raw.RawParams.{RawParams}
 use Rattle.param_set.specs.declared.raw.Field.{Field}
 use Rattle.param_set.specs.declared.raw.Field.TheVariants.{N, Q, T, Root, DigitBits, Err, Flood, Parties, Threshold}

@@ -68,6 +68,13 @@ impl Ids {
     {
         self.items.as_slice()
     }
+
+    /// Gives the list of numbers back.
+    pub fn into_vec(self) -> Vec<u32>
+        ensures { result.items ≡ self }
+    {
+        self.items
+    }
 }
 
 /// A list of places of inputs: the number of a circuit, and of an input of it.
@@ -134,5 +141,12 @@ impl Slots {
         ensures { result.now ≡ self.now }
     {
         self.items.as_slice()
+    }
+
+    /// Gives the list of places back.
+    pub fn into_vec(self) -> Vec<(u32, u32)>
+        ensures { result.items ≡ self }
+    {
+        self.items
     }
 }

@@ -1,6 +1,6 @@
-ghost use Rattle.std.specs.Prelude.{◌≡◌, ℕ, ◌-◌, ◌*◌, ◌/◌, ◌%◌, ◌^◌, ◌<◌, ◌≤◌, IsTrue, IfOk, IfErr, None};
+ghost use Rattle.std.specs.Prelude.{◌≡◌, ℕ, ◌-◌, ◌*◌, ◌/◌, ◌%◌, ◌^◌, ◌<◌, ◌≤◌, true, false, IsTrue, IfOk, IfErr, None};
 ghost use Rattle.std.specs.Int.{is_power_of_two};
-ghost use Rattle.param_set.specs.Numbers.{indivisible, noise_limit, binary_digits, digit_rows};
+ghost use Rattle.param_set.specs.Moduli.{indivisible, noise_limit, binary_digits, digit_rows};
 
 use crate::fault::ParamFault;
 use crate::raw::RawParams;
@@ -10,14 +10,16 @@ use crate::rules::first_bad;
 /// The checked numbers of a session.
 ///
 /// Ring: R_q = Z_q\[X\]/(X^n+1), plaintexts modulo t. Noise: small draws within `err`, the flood of a
-/// decryption within `flood`. Sharing: any `threshold` of `parties` parties act together. Transforms:
-/// by the powers of `psi`, a residue with psi^n = -1 modulo q.
+/// decryption within `flood`. Gadget: digits of `digit_bits` bits, from 0 on, or from both sides of 0 where
+/// they are `balanced`. Sharing: any `threshold` of `parties` parties act together. Transforms: by the
+/// powers of `psi`, a residue with psi^n = -1 modulo q.
 #[derive(Clone, Copy)]
 pub struct Params {
     n: u64,
     q: u64,
     t: u64,
     digit_bits: u64,
+    balanced: bool,
     err: u64,
     flood: u64,
     parties: u64,
@@ -35,9 +37,10 @@ pub struct Params {
 impl Params {
     ghost use Rattle.param_set.specs.Rules.{first_bad as first_bad_field, root_of, root_power};
     ghost use Rattle.param_set.specs.Faults.{IsFaultOf};
+    ghost use Rattle.param_set.specs.Numbers.{numbers_of};
 
     /// The parameters with these numbers, where each field keeps its rule and psi^n is -1 modulo q, for
-    /// psi = root^((q-1)/(2n)) mod q.
+    /// psi = root^((q-1)/(2n)) mod q. The digits of the gadget aren't balanced.
     ///
     /// Errors: `Bad` names the first field that breaks its rule; where none does, `NoRoot` tells what
     /// psi^n is.
@@ -48,6 +51,7 @@ impl Params {
         ensures q { IfOk result (λ params. params.q ≡ raw.now.q) }
         ensures t { IfOk result (λ params. params.t ≡ raw.now.t) }
         ensures digit_bits { IfOk result (λ params. params.digit_bits ≡ raw.now.digit_bits) }
+        ensures balanced { IfOk result (λ params. params.balanced ≡ false) }
         ensures err { IfOk result (λ params. params.err ≡ raw.now.err) }
         ensures flood { IfOk result (λ params. params.flood ≡ raw.now.flood) }
         ensures parties { IfOk result (λ params. params.parties ≡ raw.now.parties) }
@@ -69,6 +73,7 @@ impl Params {
             q: raw.q,
             t: raw.t,
             digit_bits: raw.digit_bits,
+            balanced: false,
             err: raw.err,
             flood: raw.flood,
             parties: raw.parties,
@@ -77,8 +82,8 @@ impl Params {
         })
     }
 
-    /// The frame of the first scripts: n = 8, q = 7 * 2^52 + 1, t = 16, digits of 8 bits, and noise
-    /// and flood within 1, for `threshold` of `parties` parties.
+    /// The frame of the first scripts: n = 8, q = 7 * 2^52 + 1, t = 16, digits of 8 bits that aren't
+    /// balanced, and noise and flood within 1, for `threshold` of `parties` parties.
     pub fn frame(parties: u64, threshold: u64) -> Params
         requires at_least_one { 1 ≤ threshold }
         requires threshold_of_all { threshold ≤ parties }
@@ -87,6 +92,7 @@ impl Params {
         ensures q { result.q ≡ 31525197391593473 }
         ensures t { result.t ≡ 16 }
         ensures digit_bits { result.digit_bits ≡ 8 }
+        ensures balanced { result.balanced ≡ false }
         ensures err { result.err ≡ 1 }
         ensures flood { result.flood ≡ 1 }
         ensures parties { result.parties ≡ parties }
@@ -97,11 +103,31 @@ impl Params {
             q: 31_525_197_391_593_473,
             t: 16,
             digit_bits: 8,
+            balanced: false,
             err: 1,
             flood: 1,
             parties,
             threshold,
             psi: 1_791_537_114_801_093,
+        }
+    }
+
+    /// The same parameters, with balanced digits.
+    pub fn balanced(self) -> Params
+        ensures numbers { numbers_of result ≡ record (numbers_of self) { balanced = true } }
+        ensures psi { result.psi ≡ self.psi }
+    {
+        Params {
+            n: self.n,
+            q: self.q,
+            t: self.t,
+            digit_bits: self.digit_bits,
+            balanced: true,
+            err: self.err,
+            flood: self.flood,
+            parties: self.parties,
+            threshold: self.threshold,
+            psi: self.psi,
         }
     }
 
@@ -131,6 +157,13 @@ impl Params {
         ensures { result ≡ self.now.digit_bits }
     {
         self.digit_bits
+    }
+
+    /// Whether the digits of the gadget are balanced: from -2^(b-1) to 2^(b-1), and not from 0 to 2^b - 1.
+    pub fn is_balanced(&self) -> bool
+        ensures { result ≡ self.now.balanced }
+    {
+        self.balanced
     }
 
     /// The bound of small draws.

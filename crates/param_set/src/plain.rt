@@ -1,4 +1,4 @@
-ghost use Rattle.std.specs.Prelude.{◌≡◌, ℕ, ◌<◌, List, [], ◌∷◌, ◌++◌, length, OnOk, OnErr, slice_get, slice_index_or, ◌==◌};
+ghost use Rattle.std.specs.Prelude.{◌≡◌, ℕ, ◌<◌, List, [], ◌∷◌, ◌++◌, length, OnOk, OnErr, slice_get, slice_index_or, option_copied, ◌==◌};
 
 use std::alloc::{AllocError, Global};
 use std::marker::Model;
@@ -69,6 +69,13 @@ impl Plain {
     {
         self.coeffs.as_slice()
     }
+
+    /// Gives the list of coefficients back.
+    pub fn into_vec(self) -> Vec<u64>
+        ensures { result.items ≡ self }
+    {
+        self.coeffs
+    }
 }
 
 /// A list of plaintexts, as the values of a circuit's inputs.
@@ -91,6 +98,13 @@ impl Plains {
         Plains {
             items: Vec::new(alloc),
         }
+    }
+
+    /// Takes over a list of plaintexts.
+    pub fn from_vec(items: Vec<Plain>) -> Plains
+        ensures { result ≡ items.items }
+    {
+        Plains { items }
     }
 
     /// Puts a plaintext behind the others; where memory is wanting it is dropped.
@@ -116,11 +130,32 @@ impl Plains {
         self.items.is_empty()
     }
 
+    /// The plaintext at a place.
+    pub fn get(&self, place: usize) -> Option<&Plain>
+        ensures { option_copied result ≡ slice_get self.now place }
+    {
+        self.items.get(place)
+    }
+
     /// The plaintext at a place, which has to be one.
     pub fn at(&self, place: usize) -> &Plain
         requires { place < length self.now }
         ensures { result.now ≡ slice_index_or self.now place [] }
     {
         &self.items[place]
+    }
+
+    /// All plaintexts.
+    pub fn as_slice(&self) -> &[Plain]
+        ensures { result.now ≡ self.now }
+    {
+        self.items.as_slice()
+    }
+
+    /// Gives the list of plaintexts back.
+    pub fn into_vec(self) -> Vec<Plain>
+        ensures { result.items ≡ self }
+    {
+        self.items
     }
 }

@@ -1,7 +1,7 @@
 //! The rules of the given numbers, field by field.
 
 ghost use Rattle.std.specs.Prelude.{◌≡◌, ◌↔◌, ◌<◌, ◌≤◌, IsTrue};
-ghost use Rattle.param_set.specs.Numbers.{indivisible};
+ghost use Rattle.param_set.specs.Moduli.{indivisible};
 ghost use Rattle.param_set.specs.Rules.{SharesNoDivisor, within, is_degree, is_modulus, first_bad};
 
 use crate::raw::{Field, RawParams};

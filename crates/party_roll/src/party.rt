@@ -4,7 +4,7 @@ ghost use Rattle.ring_spec.specs.Pairs.{KeyFits, CipherFits};
 ghost use Rattle.ring_spec.specs.Ring.{IsPoly};
 ghost use Rattle.draw_spec.specs.Streams.{input_stream};
 ghost use Rattle.bfv_spec.specs.Drawn.{drawn_encryption};
-ghost use Rattle.param_set.specs.Numbers.{digit_rows};
+ghost use Rattle.param_set.specs.Moduli.{digit_rows};
 ghost use Rattle.param_set.specs.declared.params.Params.{Params};
 ghost use Rattle.noise_ledger.specs.Bounds.{numbers_of};
 ghost use Rattle.proto_names.specs.Names.{rows_of};

@@ -119,7 +119,7 @@ impl SeedParty {
     ghost use Rattle.noise_ledger.specs.Bounds.{numbers_of};
     ghost use Rattle.session_spec.specs.Settings.{Setting};
     ghost use Rattle.session_spec.specs.Shares.{share_rows};
-    ghost use Rattle.param_set.specs.Numbers.{digit_rows};
+    ghost use Rattle.param_set.specs.Moduli.{digit_rows};
     ghost use Rattle.proto_names.specs.Names.{rows_of};
     ghost use Rattle.party_roll.specs.Briefs.{IsBrief};
     ghost use Rattle.std.specs.Prelude.{length};

@@ -1,7 +1,7 @@
 ghost use Rattle.std.specs.Prelude.{◌≡◌, ◌<◌, ◌≤◌, true, length, All, IfOk, IsSome};
 ghost use Rattle.ring_spec.specs.Pairs.{KeyFits};
 ghost use Rattle.ring_spec.specs.Ring.{IsPoly};
-ghost use Rattle.param_set.specs.Numbers.{digit_rows};
+ghost use Rattle.param_set.specs.Moduli.{digit_rows};
 ghost use Rattle.proto_names.specs.Names.{rows_of};
 ghost use Rattle.draw_spec.specs.Streams.{party_seed};
 ghost use Rattle.noise_ledger.specs.Bounds.{numbers_of};

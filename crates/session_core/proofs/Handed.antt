@@ -50,7 +50,7 @@ use Rattle.ring_spec.specs.Ring.{IsPoly}
 use Rattle.draw_spec.specs.Streams.{instance_stream}
 use Rattle.bfv_spec.specs.Shares.{pk_from}
 use Rattle.bfv_laws.proofs.Draws.{uniform_poly_is}
-use Rattle.param_set.specs.Numbers.{digit_rows}
+use Rattle.param_set.specs.Moduli.{digit_rows}
 use Rattle.instance_table.specs.declared.table.Table.{Table}
 use Rattle.session_laws.proofs.Keys.{key_found}
 

@@ -2,7 +2,7 @@
 use Rattle.std.specs.Prelude.{◌≡◌, ℕ, ◌<◌, List, [], slice_index_or, All, IsPermutation}
 use Rattle.ring_spec.specs.Ring.{IsPoly}
 use Rattle.ring_spec.specs.Aggregate.{ring_total}
-use Rattle.param_set.specs.Numbers.{digit_rows}
+use Rattle.param_set.specs.Moduli.{digit_rows}
 use Rattle.param_set.specs.declared.params.Params.{Params}
 use Rattle.proto_names.specs.Names.{rows_of}
 use Rattle.proto_names.specs.declared.signature.Signature.{Signature}

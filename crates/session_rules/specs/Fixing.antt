@@ -1,7 +1,7 @@
 -- The fixed data of a session, from the numbers of its parameters and its circuits.
 use Rattle.std.specs.Prelude.{ℕ, ◌*◌, Bool, nat_eq, ◌&&◌, List, map, filter, Option, Some, None}
 use Rattle.std.specs.List.{range_with_len, list_any}
-use Rattle.param_set.specs.Numbers.{digit_rows}
+use Rattle.param_set.specs.Moduli.{digit_rows}
 use Rattle.circuit_form.specs.declared.node.Node.{Node}
 use Rattle.circuit_form.specs.Circuits.{owners, has_product, has_rot}
 use Rattle.noise_ledger.specs.declared.over.Place.{Place}

@@ -4,7 +4,7 @@ use lib.Count.{ones}
 use Rattle.std.proofs.Math.Nat.{pow-suc}
 use Rattle.hex.proofs.OnLiterals.{hex_on_literals}
 use Rattle.param_set.specs.declared.raw.RawParams.{RawParams}
-use Rattle.param_set.specs.Numbers.{indivisible}
+use Rattle.param_set.specs.Moduli.{indivisible}
 use Rattle.param_set.specs.Rules.{is_degree, is_modulus, first_bad, root_of, root_power}
 use Rattle.param_set.proofs.Squarings.{even_step}
 use Rattle.circuit_form.specs.declared.node.Node.TheVariants as node

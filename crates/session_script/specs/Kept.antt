@@ -5,7 +5,7 @@ use Rattle.std.specs.Int.{is_power_of_two}
 use Rattle.std.specs.List.{range_with_len, list_any, IsDistinct}
 use Rattle.std.specs.Str.{bytes_eq}
 use Rattle.ring_spec.specs.Ring.{IsPoly}
-use Rattle.param_set.specs.Numbers.{indivisible}
+use Rattle.param_set.specs.Moduli.{indivisible}
 use Rattle.circuit_form.specs.Circuits.{first_fault, owners, has_rot}
 use Rattle.session_rules.specs.declared.line.Line.{Line}
 use Rattle.session_rules.specs.declared.line.Line.TheVariants as line

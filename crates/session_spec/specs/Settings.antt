@@ -2,7 +2,7 @@
 use Rattle.std.specs.Prelude.{◌≡◌, ℕ, ◌-◌, true, List, [], map, length, slice_index_or, unwrap_or, All, Option, Some, None}
 use Rattle.ring_spec.specs.Ring.{IsPoly}
 use Rattle.param_set.specs.declared.params.Params.{Params}
-use Rattle.param_set.specs.Numbers.{digit_rows}
+use Rattle.param_set.specs.Moduli.{digit_rows}
 use Rattle.circuit_form.specs.declared.node.Node.{Node}
 use Rattle.circuit_form.specs.Circuits.{first_fault, owners}
 use Rattle.circuit_form.specs.Values.{plain_value}

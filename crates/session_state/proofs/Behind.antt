@@ -6,7 +6,7 @@ use Rattle.std.proofs.lemmas.List.{append_assoc, append-nil, drop_all}
 use Rattle.std.proofs.lemmas.List.Elements.{All-head, All-tail, All-nil, All-cons}
 use Rattle.ring_spec.specs.Pairs.{Cipher}
 use Rattle.param_set.specs.declared.params.Params.{Params}
-use Rattle.param_set.specs.Numbers.{digit_rows}
+use Rattle.param_set.specs.Moduli.{digit_rows}
 use Rattle.proto_names.specs.Names.{rows_of}
 use Rattle.proto_names.specs.Instances.{fresh}
 use Rattle.proto_names.specs.declared.signature.Signature.{Signature}

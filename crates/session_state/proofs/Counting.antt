@@ -7,7 +7,7 @@ use Rattle.std.proofs.lemmas.List.{get_or-set_other, get_or-set_same, get_or_def
 use Rattle.std.proofs.lemmas.Option.{slice_get_within, get_or_from_slice_get, slice_get_read}
 use Rattle.ring_spec.specs.Ring.{ring_sum}
 use Rattle.param_set.specs.declared.params.Params.{Params}
-use Rattle.param_set.specs.Numbers.{digit_rows}
+use Rattle.param_set.specs.Moduli.{digit_rows}
 use Rattle.proto_names.specs.Names.{rows_of, is_void}
 use Rattle.proto_names.specs.Instances.{instance, missing, lacks, with_share, counted_at, after_share}
 use Rattle.proto_names.specs.declared.signature.Signature.TheVariants.{Pk}

@@ -14,7 +14,7 @@ use Rattle.ring_spec.specs.Ring.{IsPoly}
 use Rattle.ring_spec.specs.Pairs.{Cipher}
 use Rattle.bfv_spec.specs.Shares.{pk_from}
 use Rattle.param_set.specs.declared.params.Params.{Params}
-use Rattle.param_set.specs.Numbers.{digit_rows}
+use Rattle.param_set.specs.Moduli.{digit_rows}
 use Rattle.proto_names.specs.Names.{rows_of}
 use Rattle.proto_names.specs.Instances.{instance, is_done}
 use Rattle.proto_names.specs.declared.signature.Signature.{Signature}

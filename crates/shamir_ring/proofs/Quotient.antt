@@ -10,7 +10,7 @@ use Rattle.std.proofs.Math.Nat.{dvd-sub, dvd-mul_left_of_dvd, one-dvd, mod-eq_of
 use Rattle.ring_spec.specs.Ring.{residue}
 use Rattle.ring_laws.specs.Congruence.{IsCongruent}
 use Rattle.ring_laws.proofs.Congruences.{congruent_chain, congruent_times, congruent_product, congruent_self, congruent_equal, residue_congruent}
-use Rattle.param_set.specs.Numbers.{indivisible}
+use Rattle.param_set.specs.Moduli.{indivisible}
 use Rattle.share_spec.specs.Sets.{has, members_to, members}
 use Rattle.share_spec.specs.Lagrange.{ratio, quotient, product_over, other_than, lagrange}
 use Rattle.share_laws.proofs.Quotients.{IsUnit, difference_unit, quotient_is, quotient_unique, same_rest, rest_same}

@@ -1,5 +1,5 @@
 ghost use Rattle.std.specs.Prelude.{◌≡◌, ◌≢◌, ℕ, ◌*◌, ◌%◌, ◌^◌, ◌<◌, ◌≤◌, IsTrue, pos, ◌-ℤ◌};
-ghost use Rattle.param_set.specs.Numbers.{indivisible};
+ghost use Rattle.param_set.specs.Moduli.{indivisible};
 ghost use Rattle.ring_spec.specs.Ring.{residue};
 ghost use Rattle.share_spec.specs.Lagrange.{ratio as ratio_of, lagrange as coefficient_of};
 

@@ -4,7 +4,7 @@ use Rattle.std.specs.Prelude.{Bool, Some, IsTrue, not, nat_eq, ℤ, pos, ◌-ℤ
 use Rattle.std.specs.Option.{unwrap_or}
 use Rattle.std.specs.List.{range_with_len, find}
 use Rattle.std.proofs.lemmas.Bool.{and_parts, not-true, eqb-true, eqb-false, eq-eqb, cases_Bool, cases_lt, cases_eq, cond-true, cond-false, both_ways}
-use Rattle.param_set.specs.Numbers.{indivisible}
+use Rattle.param_set.specs.Moduli.{indivisible}
 use Rattle.ring_spec.specs.Ring.{residue}
 use Rattle.ring_laws.specs.Congruence.{IsCongruent}
 use Rattle.ring_laws.proofs.Integers.{sums, times_times, times_commutes, times_negative, negative_times, one_times}

@@ -6,7 +6,7 @@ use Rattle.std.proofs.lemmas.List.{length-map}
 use Rattle.std.proofs.lemmas.List.Elements.{All-head, All-tail, All-nil, All-cons, All-map}
 use Rattle.std.proofs.lemmas.List.FromFn.{length-map-range_with_len}
 use Rattle.std.proofs.Math.Nat.{pow-suc, pow-zero}
-use Rattle.param_set.specs.Numbers.{indivisible}
+use Rattle.param_set.specs.Moduli.{indivisible}
 use Rattle.ring_spec.specs.Ring.{total, coefficient, IsPoly, size}
 use Rattle.ring_laws.specs.Congruence.{IsCongruent}
 use Rattle.ring_spec.specs.Aggregate.{ring_total}

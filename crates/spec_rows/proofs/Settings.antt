@@ -6,7 +6,7 @@ use Rattle.std.specs.Int.{is_power_of_two}
 use Rattle.std.proofs.lemmas.List.Elements.{All-cons, All-nil}
 use lib.Count.{count_leading_zeros, ones}
 use Rattle.ring_spec.specs.Ring.{IsPoly, residue, residues, ring_sum}
-use Rattle.param_set.specs.Numbers.{indivisible}
+use Rattle.param_set.specs.Moduli.{indivisible}
 use Rattle.param_set.specs.declared.params.Params.{Params}
 use Rattle.circuit_form.specs.declared.node.Node.TheVariants.{Input, Const, Add, Rot}
 use Rattle.circuit_form.specs.Circuits.{first_wrong, first_fault, may_stand, owners}

@@ -1,7 +1,7 @@
 use Rattle.std.proofs.Common.{suc, add-one, ◌+◌, ◌%◌, ◌≡◌, refl, subst, arith}
 use Rattle.std.specs.Prelude.{IsTrue, not, nat_eq}
 use Rattle.std.proofs.lemmas.Bool.{and_from, not_from_false, ne_eqb}
-use Rattle.param_set.specs.Numbers.{indivisible}
+use Rattle.param_set.specs.Moduli.{indivisible}
 use Rattle.param_set.proofs.Divisors.{shares_none}
 use Rattle.param_set.proofs.rules.has_no_small_factor.Goals as goal
 

@@ -1,7 +1,7 @@
 -- The frame's degree is a power of two, and its modulus is divided by none of 2 to 32: both compute.
 use Rattle.std.proofs.Common.{refl, lit≤}
 use lib.Count.{ones}
-use Rattle.param_set.specs.Numbers.{indivisible}
+use Rattle.param_set.specs.Moduli.{indivisible}
 use Rattle.param_set.proofs.params.Params.frame.Goals as goal
 
 pub invariant_of-result-clause-degree : goal.invariant_of-result-clause-degree

@@ -3,7 +3,7 @@ use Rattle.std.proofs.Common.{◌≡◌, ◌∙◌, sym, ap, subst, arith, [], l
 use Rattle.std.specs.Prelude.{IsSome, IfOk}
 use Rattle.param_set.specs.declared.params.Params.{Params}
 use Rattle.mod_ring.specs.declared.ring.Ring.{Ring}
-use Rattle.param_set.specs.Numbers.{digit_rows}
+use Rattle.param_set.specs.Moduli.{digit_rows}
 use Rattle.proto_names.specs.Names.{rows_of}
 use Rattle.instance_table.specs.Tables.{told, rows_sum}
 use Rattle.instance_table.proofs.Places.{told_entry}

@@ -1,6 +1,6 @@
 -- The instances, and what the share is of, are all that is looked at; the reply is no list.
 use Rattle.std.proofs.Common.{◌≡◌, ◌∙◌, sym, ap, ap₂, refl, ℕ, ◌≤◌, List, [], length, Some, arith}
-use Rattle.param_set.specs.Numbers.{binary_digits}
+use Rattle.param_set.specs.Moduli.{binary_digits}
 use Rattle.param_set.proofs.Digits.{digits_around, few_rows}
 use Rattle.proto_names.specs.declared.instance.Instance.{Instance}
 use Rattle.session_rules.specs.declared.call.Call.TheVariants as call
