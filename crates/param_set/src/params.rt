@@ -37,7 +37,7 @@ pub struct Params {
 impl Params {
     ghost use Rattle.param_set.specs.Rules.{first_bad as first_bad_field, root_of, root_power};
     ghost use Rattle.param_set.specs.Faults.{IsFaultOf};
-    ghost use Rattle.param_set.specs.Numbers.{numbers_of};
+    ghost use Rattle.param_set.specs.Numbers.{numbers_of, numbers_given};
 
     /// The parameters with these numbers, where each field keeps its rule and psi^n is -1 modulo q, for
     /// psi = root^((q-1)/(2n)) mod q. The digits of the gadget aren't balanced.
@@ -47,15 +47,7 @@ impl Params {
     pub fn check(raw: &RawParams) -> Result<Params, ParamFault>
         ensures rules { IfOk result (λ _. first_bad_field raw.now ≡ None) }
         ensures root { IfOk result (λ _. root_power raw.now ≡ raw.now.q - 1) }
-        ensures n { IfOk result (λ params. params.n ≡ raw.now.n) }
-        ensures q { IfOk result (λ params. params.q ≡ raw.now.q) }
-        ensures t { IfOk result (λ params. params.t ≡ raw.now.t) }
-        ensures digit_bits { IfOk result (λ params. params.digit_bits ≡ raw.now.digit_bits) }
-        ensures balanced { IfOk result (λ params. params.balanced ≡ false) }
-        ensures err { IfOk result (λ params. params.err ≡ raw.now.err) }
-        ensures flood { IfOk result (λ params. params.flood ≡ raw.now.flood) }
-        ensures parties { IfOk result (λ params. params.parties ≡ raw.now.parties) }
-        ensures threshold { IfOk result (λ params. params.threshold ≡ raw.now.threshold) }
+        ensures numbers { IfOk result (λ params. numbers_of params ≡ numbers_given raw.now) }
         ensures psi { IfOk result (λ params. params.psi ≡ root_of raw.now) }
         ensures fault { IfErr result (IsFaultOf raw.now) }
     {
