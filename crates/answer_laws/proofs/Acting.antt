@@ -8,7 +8,7 @@ use Rattle.ring_spec.specs.Ring.{ring_sum, ring_product}
 use Rattle.ring_spec.specs.Aggregate.{ring_total}
 use Rattle.bfv_spec.specs.Scheme.{pk_share}
 use Rattle.bfv_spec.specs.Members.{Member, parts, noises, key_shares, decryption_shares}
-use Rattle.noise_ledger.specs.Bounds.{numbers_of}
+use Rattle.param_set.specs.Numbers.{numbers_of}
 use Rattle.share_spec.specs.Sets.{members, count}
 use Rattle.share_spec.specs.Dealing.{secret}
 use Rattle.share_spec.specs.Dealing.{parts as parts_dealt}

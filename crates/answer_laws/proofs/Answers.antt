@@ -8,7 +8,7 @@ use Rattle.bfv_spec.specs.Scheme.{decryption}
 use Rattle.share_spec.specs.Sets.{count}
 use Rattle.share_spec.specs.Dealing.{secret}
 use Rattle.share_laws.proofs.Shares.{secret_is}
-use Rattle.noise_ledger.specs.Bounds.{Numbers}
+use Rattle.param_set.specs.Numbers.{Numbers}
 use Rattle.circuit_laws.specs.Carrying.{Opens, OutputsCarry}
 use Rattle.proto_names.specs.declared.signature.Signature.TheVariants.{Dec}
 use Rattle.session_rules.specs.States.{is_admitted, plan}

@@ -18,7 +18,8 @@ use Rattle.share_spec.specs.Dealing.{secret}
 use Rattle.share_laws.proofs.Shares.{secret_is, secret_small}
 use Rattle.circuit_form.specs.declared.node.Node.{Node}
 use Rattle.noise_ledger.specs.declared.over.Place.{Place}
-use Rattle.noise_ledger.specs.Bounds.{Numbers, numbers_of, input_bound}
+use Rattle.param_set.specs.Numbers.{Numbers, numbers_of}
+use Rattle.noise_ledger.specs.Bounds.{input_bound}
 use Rattle.noise_ledger.specs.Ledger.{first_over}
 use Rattle.cipher_spec.specs.Ciphers.{no_cipher}
 use Rattle.circuit_laws.specs.Carrying.{AreInputs}

@@ -2,7 +2,7 @@
 use Rattle.std.specs.Prelude.{◌≡◌, ℕ, ◌*◌, List, Some}
 use Rattle.bfv_spec.specs.Scheme.{IsPublicKey}
 use Rattle.param_set.specs.declared.params.Params.{Params}
-use Rattle.noise_ledger.specs.Bounds.{numbers_of}
+use Rattle.param_set.specs.Numbers.{numbers_of}
 use Rattle.share_spec.specs.Sets.{count}
 use Rattle.share_spec.specs.Dealing.{secret}
 use Rattle.proto_names.specs.declared.instance.Instance.{Instance}

@@ -4,7 +4,7 @@ use Rattle.ring_spec.specs.Pairs.{Key}
 use Rattle.param_set.specs.declared.params.Params.{Params}
 use Rattle.circuit_form.specs.Values.{entry}
 use Rattle.noise_ledger.specs.declared.over.Place.TheVariants.{Node as AtNode}
-use Rattle.noise_ledger.specs.Bounds.{numbers_of}
+use Rattle.param_set.specs.Numbers.{numbers_of}
 use Rattle.noise_ledger.specs.Ledger.{place_bound}
 use Rattle.cipher_spec.specs.Ciphers.{cipher_at}
 use Rattle.share_spec.specs.Dealing.{secret}

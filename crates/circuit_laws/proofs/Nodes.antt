@@ -17,7 +17,8 @@ use Rattle.circuit_form.specs.declared.node.Node.{Node}
 use Rattle.circuit_form.specs.declared.node.Node.TheVariants.{Input, Const, Add, Sub, Neg, Mul, Rot}
 use Rattle.circuit_form.specs.Circuits.{fits, may_stand, is_const, is_full, owners}
 use Rattle.circuit_form.specs.Values.{entry, node_value, given_after}
-use Rattle.noise_ledger.specs.Bounds.{numbers_of, sum_bound, neg_bound, plain_mul_bound}
+use Rattle.param_set.specs.Numbers.{numbers_of}
+use Rattle.noise_ledger.specs.Bounds.{sum_bound, neg_bound, plain_mul_bound}
 use Rattle.noise_ledger.specs.Ledger.{bound_at, product_bound, node_bound}
 use Rattle.cipher_spec.specs.Ciphers.{is_rotation, no_cipher, cipher_at, const_of, const_at, product_cipher, node_cipher}
 use Rattle.circuit_laws.specs.Carrying.{AreInputs}

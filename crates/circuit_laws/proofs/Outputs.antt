@@ -2,7 +2,8 @@
 use Rattle.std.proofs.Common.{◌-◌, ◌<◌, [], length, refl, arith}
 use Rattle.circuit_form.specs.Values.{plain_value}
 use Rattle.circuit_form.proofs.Standing.{is_circuit}
-use Rattle.noise_ledger.specs.Bounds.{numbers_of, output_bound}
+use Rattle.param_set.specs.Numbers.{numbers_of}
+use Rattle.noise_ledger.specs.Bounds.{output_bound}
 use Rattle.noise_ledger.specs.Ledger.{bound_at, node_bounds, place_bound}
 use Rattle.noise_ledger.proofs.Admitted.{is_admitted}
 use Rattle.cipher_spec.specs.Ciphers.{output_cipher}

@@ -13,7 +13,7 @@ use Rattle.circuit_form.specs.declared.node.Node.TheVariants.{Input, Const, Add,
 use Rattle.circuit_form.specs.Circuits.{first_fault, has_product, is_full, owners}
 use Rattle.circuit_form.specs.Values.{entry, node_value, given_after, values_from}
 use Rattle.circuit_form.proofs.Standing.{each_stands}
-use Rattle.noise_ledger.specs.Bounds.{numbers_of}
+use Rattle.param_set.specs.Numbers.{numbers_of}
 use Rattle.noise_ledger.specs.Ledger.{bound_at, node_bound, bounds_from}
 use Rattle.cipher_spec.specs.Ciphers.{is_rotation, is_switch_free, no_cipher, cipher_at, node_cipher, ciphers_from}
 use Rattle.circuit_laws.specs.Carrying.{AreInputs}

@@ -10,7 +10,8 @@ use Rattle.circuit_form.specs.declared.node.Node.{Node}
 use Rattle.circuit_form.specs.Circuits.{first_fault}
 use Rattle.circuit_form.specs.Values.{plain_value, values_from}
 use Rattle.circuit_form.proofs.Standing.{is_circuit}
-use Rattle.noise_ledger.specs.Bounds.{numbers_of, limit}
+use Rattle.param_set.specs.Numbers.{numbers_of}
+use Rattle.noise_ledger.specs.Bounds.{limit}
 use Rattle.noise_ledger.specs.Ledger.{AtMost, node_bounds, place_bound, bounds_from}
 use Rattle.noise_ledger.proofs.Admitted.{is_admitted}
 use Rattle.cipher_spec.specs.Ciphers.{is_switch_free, ciphers_from, output_cipher}

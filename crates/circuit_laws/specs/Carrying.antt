@@ -7,7 +7,8 @@ use Rattle.param_set.specs.declared.params.Params.{Params}
 use Rattle.circuit_form.specs.declared.node.Node.{Node}
 use Rattle.circuit_form.specs.Circuits.{first_fault, owners}
 use Rattle.circuit_form.specs.Values.{plain_value}
-use Rattle.noise_ledger.specs.Bounds.{numbers_of, limit, input_bound}
+use Rattle.param_set.specs.Numbers.{numbers_of}
+use Rattle.noise_ledger.specs.Bounds.{limit, input_bound}
 use Rattle.noise_ledger.specs.Ledger.{first_over}
 use Rattle.cipher_spec.specs.Ciphers.{is_switch_free, cipher_at, output_cipher}
 

@@ -9,7 +9,8 @@ use Rattle.circuit_form.specs.Circuits.{first_fault}
 use Rattle.circuit_form.specs.Values.{entry, values_from, plain_value}
 use Rattle.noise_ledger.specs.declared.over.Place.TheVariants.{Output}
 use Rattle.noise_ledger.specs.declared.over.Place.TheVariants.{Node as AtNode}
-use Rattle.noise_ledger.specs.Bounds.{numbers_of, limit}
+use Rattle.param_set.specs.Numbers.{numbers_of}
+use Rattle.noise_ledger.specs.Bounds.{limit}
 use Rattle.noise_ledger.specs.Ledger.{place_bound, first_over}
 use Rattle.cipher_spec.specs.Ciphers.{is_switch_free, cipher_at, ciphers_from, output_cipher}
 use Rattle.circuit_laws.specs.Carrying.{AreInputs}

@@ -6,7 +6,8 @@ use Rattle.proto_names.specs.declared.instance.Instance.{Instance}
 use Rattle.proto_names.specs.declared.instance.Stage.TheVariants.{Complete}
 use Rattle.circuit_form.specs.declared.node.Node.{Node}
 use Rattle.noise_ledger.specs.declared.over.Place.{Place}
-use Rattle.noise_ledger.specs.Bounds.{Numbers as Bounding, limit}
+use Rattle.param_set.specs.Numbers.{Numbers as Bounding}
+use Rattle.noise_ledger.specs.Bounds.{limit}
 use Rattle.noise_ledger.specs.Ledger.{first_over, place_bound}
 use Rattle.session_rules.specs.declared.call.Entry.{Entry}
 use Rattle.session_rules.specs.declared.state.CircuitState.{CircuitState}

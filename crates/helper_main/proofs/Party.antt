@@ -11,7 +11,7 @@ use Rattle.draw_spec.specs.Streams.{party_seed}
 use Rattle.param_set.specs.declared.params.Params.{Params}
 use Rattle.circuit_form.specs.declared.node.Node.{Node}
 use Rattle.circuit_form.specs.Circuits.{owners}
-use Rattle.noise_ledger.specs.Bounds.{Numbers}
+use Rattle.param_set.specs.Numbers.{Numbers}
 use Rattle.party_roll.specs.declared.placed.Placed.{Placed}
 use Rattle.party_roll.specs.declared.seed_party.SeedParty.{SeedParty}
 use Rattle.party_roll.specs.Seeds.{seeds_of}

@@ -7,7 +7,7 @@ use Rattle.draw_spec.specs.Streams.{input_stream}
 use Rattle.bfv_spec.specs.Drawn.{drawn_encryption}
 use Rattle.circuit_form.specs.declared.node.Node.{Node}
 use Rattle.circuit_form.specs.Circuits.{owners}
-use Rattle.noise_ledger.specs.Bounds.{Numbers, numbers_of}
+use Rattle.param_set.specs.Numbers.{Numbers, numbers_of}
 use Rattle.cipher_spec.specs.Ciphers.{output_cipher}
 use Rattle.std.specs.Option.{IfSome}
 use Rattle.std.specs.declared.alloc.Global.{Global}

@@ -6,7 +6,8 @@ use Rattle.std.proofs.lemmas.List.Elements.{All-nil, All-cons}
 use Rattle.circuit_form.specs.declared.node.Node.{Node}
 use Rattle.circuit_form.proofs.Standing.{rest_chosen}
 use Rattle.noise_ledger.specs.declared.over.Place.TheVariants.{Output}
-use Rattle.noise_ledger.specs.Bounds.{Numbers, limit}
+use Rattle.param_set.specs.Numbers.{Numbers}
+use Rattle.noise_ledger.specs.Bounds.{limit}
 use Rattle.noise_ledger.specs.Ledger.{AtMost, node_bounds, place_bound, first_above, first_over, node_or_output}
 
 neither : (found : Option ℕ) (within : Bool) → node_or_output found within ≡ None → (found ≡ None) × (within ≡ true)

@@ -6,7 +6,8 @@ use Rattle.std.specs.Int.RustNames.{count_ones}
 use Rattle.std.proofs.lemmas.Nat.{ones_cat, zero_from_ones}
 use Rattle.std.proofs.lemmas.Bool.{cases_eq, eqb-true}
 use Rattle.param_set.specs.declared.params.Params.{Params}
-use Rattle.noise_ledger.specs.Bounds.{numbers_of, weight}
+use Rattle.param_set.specs.Numbers.{numbers_of}
+use Rattle.noise_ledger.specs.Bounds.{weight}
 
 -- a power of two from 2 on is even: of its binary digits one alone is set, and it isn't the last
 power_even : (n : ℕ) → 2 ≤ n → IsTrue (is_power_of_two n) → n % 2 ≡ 0

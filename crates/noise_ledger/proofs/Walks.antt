@@ -11,7 +11,8 @@ use Rattle.circuit_form.specs.declared.node.Node.{Node}
 use Rattle.circuit_form.specs.declared.node.Node.TheVariants.{Neg}
 use Rattle.noise_ledger.specs.declared.over.Place.TheVariants.{Output}
 use Rattle.noise_ledger.specs.declared.over.Place.TheVariants.{Node as AtNode}
-use Rattle.noise_ledger.specs.Bounds.{Numbers, limit, output_bound}
+use Rattle.param_set.specs.Numbers.{Numbers}
+use Rattle.noise_ledger.specs.Bounds.{limit, output_bound}
 use Rattle.noise_ledger.specs.Ledger.{AtMost, node_bound, bounds_from, node_bounds, place_bound, first_above, first_over, node_or_output}
 
 -- the nodes from a place on are the node there and the rest

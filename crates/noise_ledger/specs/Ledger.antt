@@ -8,7 +8,8 @@ use Rattle.circuit_form.specs.Circuits.{is_const}
 use Rattle.noise_ledger.specs.declared.over.Place.{Place}
 use Rattle.noise_ledger.specs.declared.over.Place.TheVariants.{Output}
 use Rattle.noise_ledger.specs.declared.over.Place.TheVariants.{Node as AtNode}
-use Rattle.noise_ledger.specs.Bounds.{Numbers, limit, input_bound, const_bound, sum_bound, neg_bound, plain_mul_bound, rot_bound, mul_bound, output_bound}
+use Rattle.param_set.specs.Numbers.{Numbers}
+use Rattle.noise_ledger.specs.Bounds.{limit, input_bound, const_bound, sum_bound, neg_bound, plain_mul_bound, rot_bound, mul_bound, output_bound}
 
 -- ---- the bounds
 

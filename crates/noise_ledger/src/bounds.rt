@@ -1,6 +1,7 @@
 ghost use Rattle.std.specs.Prelude.{◌≡◌, ◌^◌, ◌<◌, ◌≤◌};
 ghost use Rattle.param_set.specs.Moduli.{noise_limit};
-ghost use Rattle.noise_ledger.specs.Bounds.{numbers_of, limit, rotation_noise, relin_noise, input_bound, const_bound, sum_bound, neg_bound, plain_mul_bound, rot_bound, mul_bound, output_bound};
+ghost use Rattle.param_set.specs.Numbers.{numbers_of};
+ghost use Rattle.noise_ledger.specs.Bounds.{limit, rotation_noise, relin_noise, input_bound, const_bound, sum_bound, neg_bound, plain_mul_bound, rot_bound, mul_bound, output_bound};
 
 use crate::gadget::switched;
 use crate::products::{crossed, rounding};

@@ -1,5 +1,6 @@
 ghost use Rattle.std.specs.Prelude.{◌≡◌, ◌-◌, ◌^◌, ◌<◌, ◌≤◌};
-ghost use Rattle.noise_ledger.specs.Bounds.{numbers_of, switched};
+ghost use Rattle.param_set.specs.Numbers.{numbers_of};
+ghost use Rattle.noise_ledger.specs.Bounds.{switched};
 
 use param_set::Params;
 

@@ -2,7 +2,8 @@ ghost use Rattle.std.specs.Prelude.{◌≡◌, ◌+◌, ◌<◌, ◌≤◌, true
 ghost use Rattle.std.specs.List.{slice_get};
 ghost use Rattle.circuit_form.specs.Circuits.{is_const, may_stand, first_fault};
 ghost use Rattle.noise_ledger.specs.declared.over.Place.TheVariants.{Output};
-ghost use Rattle.noise_ledger.specs.Bounds.{numbers_of, limit};
+ghost use Rattle.param_set.specs.Numbers.{numbers_of};
+ghost use Rattle.noise_ledger.specs.Bounds.{limit};
 ghost use Rattle.noise_ledger.specs.Ledger.{AtMost, product_bound, node_bound, bounds_from, node_bounds, place_bound, first_over, nodes_before};
 
 use crate::bounds::{

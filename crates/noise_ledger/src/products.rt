@@ -1,5 +1,6 @@
 ghost use Rattle.std.specs.Prelude.{◌≡◌, ◌^◌, ◌≤◌};
-ghost use Rattle.noise_ledger.specs.Bounds.{numbers_of, weight, wraps, crossed, rounding};
+ghost use Rattle.param_set.specs.Numbers.{numbers_of};
+ghost use Rattle.noise_ledger.specs.Bounds.{weight, wraps, crossed, rounding};
 
 use param_set::Params;
 

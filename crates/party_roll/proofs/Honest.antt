@@ -6,7 +6,7 @@ use Rattle.bfv_spec.specs.Shares.{honest_pk}
 use Rattle.dec_spec.specs.Decrypting.{honest_dec}
 use Rattle.share_spec.specs.Dealing.{part}
 use Rattle.param_set.specs.declared.params.Params.{Params}
-use Rattle.noise_ledger.specs.Bounds.{numbers_of}
+use Rattle.param_set.specs.Numbers.{numbers_of}
 use Rattle.proto_names.specs.declared.signature.Signature.TheVariants.{Pk, Dec}
 use Rattle.session_spec.specs.Settings.{Setting}
 use Rattle.session_spec.specs.Shares.{share_rows, key_share, dec_share}

@@ -6,7 +6,7 @@ ghost use Rattle.draw_spec.specs.Streams.{input_stream};
 ghost use Rattle.bfv_spec.specs.Drawn.{drawn_encryption};
 ghost use Rattle.param_set.specs.Moduli.{digit_rows};
 ghost use Rattle.param_set.specs.declared.params.Params.{Params};
-ghost use Rattle.noise_ledger.specs.Bounds.{numbers_of};
+ghost use Rattle.param_set.specs.Numbers.{numbers_of};
 ghost use Rattle.proto_names.specs.Names.{rows_of};
 ghost use Rattle.session_spec.specs.Settings.{Setting, seed_at};
 ghost use Rattle.session_spec.specs.Shares.{share_rows};

@@ -116,7 +116,7 @@ impl SeedParty {
 }
 
 impl SeedParty {
-    ghost use Rattle.noise_ledger.specs.Bounds.{numbers_of};
+    ghost use Rattle.param_set.specs.Numbers.{numbers_of};
     ghost use Rattle.session_spec.specs.Settings.{Setting};
     ghost use Rattle.session_spec.specs.Shares.{share_rows};
     ghost use Rattle.param_set.specs.Moduli.{digit_rows};

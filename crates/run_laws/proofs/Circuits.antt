@@ -7,7 +7,7 @@ use Rattle.proto_names.specs.declared.signature.Signature.TheVariants.{Pk, Rlk1,
 use Rattle.circuit_form.specs.declared.node.Node.{Node}
 use Rattle.circuit_form.specs.declared.node.Node.TheVariants as node
 use Rattle.circuit_form.specs.Circuits.{owners}
-use Rattle.noise_ledger.specs.Bounds.{Numbers}
+use Rattle.param_set.specs.Numbers.{Numbers}
 use Rattle.session_rules.specs.declared.fixed.Fixed.{Fixed}
 use Rattle.session_rules.specs.Issues.{keys as needed_keys, wants_key, wants_relin}
 use Rattle.session_rules.specs.Fixing.{plan_of, fixed_from}

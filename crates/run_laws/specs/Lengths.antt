@@ -4,7 +4,7 @@ use Rattle.std.specs.List.{range_with_len, list_any}
 use Rattle.proto_names.specs.declared.signature.Signature.{Signature}
 use Rattle.proto_names.specs.declared.signature.Signature.TheVariants.{Dec}
 use Rattle.circuit_form.specs.declared.node.Node.{Node}
-use Rattle.noise_ledger.specs.Bounds.{Numbers}
+use Rattle.param_set.specs.Numbers.{Numbers}
 use Rattle.session_rules.specs.declared.call.Call.{Call}
 use Rattle.session_rules.specs.declared.call.Entry.{Entry}
 use Rattle.session_rules.specs.declared.line.Line.{Line}

@@ -6,7 +6,8 @@ use Rattle.std.proofs.lemmas.List.{append-nil, flat_map_more, get_or-take, take_
 use Rattle.circuit_form.specs.declared.node.Node.{Node}
 use Rattle.noise_ledger.specs.declared.over.Place.{Place}
 use Rattle.noise_ledger.specs.declared.over.Place.TheVariants.{Node as AtNode, Output}
-use Rattle.noise_ledger.specs.Bounds.{Numbers, limit}
+use Rattle.param_set.specs.Numbers.{Numbers}
+use Rattle.noise_ledger.specs.Bounds.{limit}
 use Rattle.noise_ledger.specs.Ledger.{node_bound, bounds_from, node_bounds, place_bound, first_above, first_over, node_or_output, nodes_before}
 use Rattle.session_script.specs.Asked.{Named}
 use Rattle.run_report.proofs.Rows.{none_yet, range_next, range_push}

@@ -6,7 +6,8 @@ use Rattle.circuit_form.specs.declared.node.Node.{Node}
 use Rattle.circuit_form.specs.Values.{plain_value}
 use Rattle.noise_ledger.specs.declared.over.Place.{Place}
 use Rattle.noise_ledger.specs.declared.over.Place.TheVariants.{Node as AtNode, Output}
-use Rattle.noise_ledger.specs.Bounds.{Numbers as Bounding, limit}
+use Rattle.param_set.specs.Numbers.{Numbers as Bounding}
+use Rattle.noise_ledger.specs.Bounds.{limit}
 use Rattle.noise_ledger.specs.Ledger.{bound_at, node_bounds, place_bound, first_over, nodes_before}
 use Rattle.session_script.specs.Asked.{Asked, Named}
 use Rattle.run_report.specs.Values.{value_text}

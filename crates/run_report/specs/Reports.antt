@@ -2,7 +2,7 @@
 use Rattle.std.specs.Prelude.{ℕ, cond, List, [], ◌++◌, map, length, slice_index_or, codes, decimal, Some}
 use Rattle.std.specs.List.{range_with_len, flat_map}
 use Rattle.draw_spec.specs.Streams.{party_seed}
-use Rattle.noise_ledger.specs.Bounds.{Numbers as Bounding}
+use Rattle.param_set.specs.Numbers.{Numbers as Bounding}
 use Rattle.noise_ledger.specs.declared.over.Place.{Place}
 use Rattle.noise_ledger.specs.declared.over.Place.TheVariants.{Node as AtNode, Output}
 use Rattle.proto_names.specs.declared.instance.Instance.{Instance}

@@ -3,7 +3,7 @@ ghost use Rattle.ring_spec.specs.Ring.{IsPoly};
 ghost use Rattle.std.specs.List.{flat_map};
 ghost use Rattle.circuit_form.specs.Circuits.{first_fault, owners};
 ghost use Rattle.circuit_form.specs.Values.{plain_value};
-ghost use Rattle.noise_ledger.specs.Bounds.{numbers_of};
+ghost use Rattle.param_set.specs.Numbers.{numbers_of};
 ghost use Rattle.noise_ledger.specs.Ledger.{first_over};
 ghost use Rattle.session_script.specs.Asked.{numbers_of as frame_of};
 ghost use Rattle.session_script.specs.Scripts.{asked};

@@ -4,7 +4,7 @@ ghost use Rattle.ring_spec.specs.Ring.{IsPoly};
 ghost use Rattle.param_set.specs.Moduli.{digit_rows};
 ghost use Rattle.proto_names.specs.Names.{rows_of};
 ghost use Rattle.draw_spec.specs.Streams.{party_seed};
-ghost use Rattle.noise_ledger.specs.Bounds.{numbers_of};
+ghost use Rattle.param_set.specs.Numbers.{numbers_of};
 ghost use Rattle.session_spec.specs.Settings.{Setting};
 ghost use Rattle.session_spec.specs.Shares.{share_rows};
 ghost use Rattle.party_roll.specs.Seeds.{seeds_of};

@@ -4,7 +4,7 @@ use Rattle.ring_spec.specs.Ring.{ring_sum}
 use Rattle.ring_spec.specs.Pairs.{Cipher}
 use Rattle.bfv_spec.specs.Scheme.{decryption}
 use Rattle.param_set.specs.declared.params.Params.{Params}
-use Rattle.noise_ledger.specs.Bounds.{Numbers}
+use Rattle.param_set.specs.Numbers.{Numbers}
 use Rattle.share_spec.specs.Sets.{count}
 use Rattle.proto_names.specs.declared.signature.Signature.TheVariants.{Dec}
 use Rattle.session_rules.specs.declared.state.CircuitState.{CircuitState}

@@ -4,7 +4,7 @@ use Rattle.std.proofs.lemmas.Bool.{cases_lt}
 use Rattle.std.proofs.lemmas.List.{get_or-map, get_or_past, length-map}
 use Rattle.circuit_form.specs.declared.node.Node.{Node}
 use Rattle.circuit_form.specs.Circuits.{owners}
-use Rattle.noise_ledger.specs.Bounds.{Numbers}
+use Rattle.param_set.specs.Numbers.{Numbers}
 use Rattle.session_rules.specs.declared.fixed.Plan.{Plan}
 use Rattle.session_rules.specs.declared.state.CircuitState.{CircuitState}
 use Rattle.session_rules.specs.declared.state.CircuitState.TheVariants.{Refused, Idle, Taken, Evaluated, Answered}

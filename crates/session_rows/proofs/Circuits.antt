@@ -2,7 +2,7 @@
 -- plaintexts modulo 16 or 65537, and in that of 1024 coefficients.
 use Rattle.std.proofs.Common.{◌≡◌, [], ◌∷◌, refl}
 use Rattle.circuit_form.specs.declared.node.Node.TheVariants.{Input, Const, Add, Mul, Rot}
-use Rattle.noise_ledger.specs.Bounds.{Numbers}
+use Rattle.param_set.specs.Numbers.{Numbers}
 use Rattle.session_rules.specs.Fixing.{fixed_of}
 use Rattle.session_rows.proofs.Words.{sum_of, product_of, constant, turned_by, any_two, three_circuits, refused_alone, flooded}
 use Rattle.session_rows.proofs.Computed.{plans}

@@ -8,7 +8,7 @@ use Rattle.std.proofs.lemmas.List.{get_or-map, get_or_default, length-map}
 use Rattle.std.proofs.lemmas.List.Elements.{Contains-get_or}
 use Rattle.circuit_form.specs.declared.node.Node.{Node}
 use Rattle.noise_ledger.specs.declared.over.Place.{Place}
-use Rattle.noise_ledger.specs.Bounds.{Numbers}
+use Rattle.param_set.specs.Numbers.{Numbers}
 use Rattle.noise_ledger.specs.Ledger.{first_over}
 use Rattle.session_rules.specs.declared.fixed.Plan.{Plan}
 use Rattle.session_rules.specs.States.{plan, no_plan, is_admitted}

@@ -5,7 +5,8 @@ use Rattle.param_set.specs.Moduli.{digit_rows}
 use Rattle.circuit_form.specs.declared.node.Node.{Node}
 use Rattle.circuit_form.specs.Circuits.{owners, has_product, has_rot}
 use Rattle.noise_ledger.specs.declared.over.Place.{Place}
-use Rattle.noise_ledger.specs.Bounds.{Numbers, limit}
+use Rattle.param_set.specs.Numbers.{Numbers}
+use Rattle.noise_ledger.specs.Bounds.{limit}
 use Rattle.noise_ledger.specs.Ledger.{place_bound, first_over}
 use Rattle.session_rules.specs.declared.fixed.Plan.{Plan}
 use Rattle.session_rules.specs.declared.fixed.Fixed.{Fixed}

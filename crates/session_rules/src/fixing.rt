@@ -2,7 +2,7 @@
 ghost use Rattle.std.specs.Prelude.{◌≡◌, ◌+◌, ◌*◌, ◌≤◌, [], ◌∷◌, ◌++◌, None, IfOk, cond, nat_eq, filter, map, length};
 ghost use Rattle.std.specs.List.{range_with_len, list_any};
 ghost use Rattle.circuit_form.specs.Circuits.{first_fault, owners};
-ghost use Rattle.noise_ledger.specs.Bounds.{numbers_of};
+ghost use Rattle.param_set.specs.Numbers.{numbers_of};
 ghost use Rattle.noise_ledger.specs.Ledger.{first_over};
 ghost use Rattle.proto_names.specs.declared.signature.Signature.TheVariants.{Pk, Rlk1, Rlk2, Rot};
 ghost use Rattle.session_rules.specs.Issues.{keys, wants_key, wants_relin};

@@ -7,7 +7,7 @@ use Rattle.std.proofs.lemmas.List.Elements.{All-append, All-replicate}
 use Rattle.std.proofs.lemmas.List.Sums.{sum_by-append, sum_by-cons, sum_by-le}
 use Rattle.circuit_form.specs.declared.node.Node.{Node}
 use Rattle.circuit_form.specs.Circuits.{has_rot}
-use Rattle.noise_ledger.specs.Bounds.{Numbers as Bounding}
+use Rattle.param_set.specs.Numbers.{Numbers as Bounding}
 use Rattle.session_rules.specs.declared.line.Line.{Line}
 use Rattle.session_rules.specs.declared.line.Line.TheVariants as line
 use Rattle.session_rules.specs.declared.fixed.Plan.{Plan}

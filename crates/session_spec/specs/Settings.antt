@@ -6,7 +6,7 @@ use Rattle.param_set.specs.Moduli.{digit_rows}
 use Rattle.circuit_form.specs.declared.node.Node.{Node}
 use Rattle.circuit_form.specs.Circuits.{first_fault, owners}
 use Rattle.circuit_form.specs.Values.{plain_value}
-use Rattle.noise_ledger.specs.Bounds.{Numbers, numbers_of}
+use Rattle.param_set.specs.Numbers.{Numbers, numbers_of}
 use Rattle.cipher_spec.specs.Ciphers.{is_switch_free}
 use Rattle.session_rules.specs.declared.fixed.Fixed.{Fixed}
 use Rattle.session_rules.specs.Fixing.{fixed_of}

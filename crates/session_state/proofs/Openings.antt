@@ -12,7 +12,7 @@ use Rattle.circuit_form.specs.declared.node.Node.{Node}
 use Rattle.circuit_form.specs.declared.node.Node.TheVariants.{Input, Const, Add, Sub, Neg, Mul, Rot}
 use Rattle.circuit_form.specs.Circuits.{first_fault, first_wrong, owners, has_product, is_turn}
 use Rattle.cipher_spec.specs.Ciphers.{is_switch_free, is_rotation}
-use Rattle.noise_ledger.specs.Bounds.{Numbers, numbers_of}
+use Rattle.param_set.specs.Numbers.{Numbers, numbers_of}
 use Rattle.proto_names.specs.Instances.{instance}
 use Rattle.proto_names.specs.declared.signature.Signature.{Signature}
 use Rattle.proto_names.specs.declared.signature.Signature.TheVariants.{Pk, Rlk1, Rlk2}

@@ -8,7 +8,7 @@ use Rattle.std.specs.declared.sync.Arc.{Arc}
 use Rattle.ring_spec.specs.Pairs.{Cipher}
 use Rattle.circuit_form.specs.declared.node.Node.{Node}
 use Rattle.circuit_form.specs.Circuits.{owners}
-use Rattle.noise_ledger.specs.Bounds.{Numbers}
+use Rattle.param_set.specs.Numbers.{Numbers}
 use Rattle.session_rules.specs.declared.fixed.Plan.{Plan}
 use Rattle.session_rules.specs.States.{State, plan, no_plan}
 use Rattle.session_rules.specs.Fixing.{plan_of, fixed_from}

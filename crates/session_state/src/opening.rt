@@ -1,5 +1,5 @@
 ghost use Rattle.std.specs.Prelude.{◌≡◌, ℕ, ◌≤◌, List, [], length, map, replicate, false, All, IfOk, None};
-ghost use Rattle.noise_ledger.specs.Bounds.{numbers_of};
+ghost use Rattle.param_set.specs.Numbers.{numbers_of};
 ghost use Rattle.session_rules.specs.Fixing.{plan_of as plan_by};
 ghost use Rattle.session_rules.specs.States.{opening, opening_of, none_given};
 ghost use Rattle.session_spec.specs.Settings.{rules as rules_for, nodes_of, Keeps};

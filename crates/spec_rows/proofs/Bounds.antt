@@ -5,7 +5,8 @@ use Rattle.circuit_form.specs.declared.node.Node.{Node}
 use Rattle.circuit_form.specs.declared.node.Node.TheVariants.{Input, Const, Add, Sub, Neg, Mul, Rot}
 use Rattle.noise_ledger.specs.declared.over.Place.TheVariants.{Output}
 use Rattle.noise_ledger.specs.declared.over.Place.TheVariants.{Node as AtNode}
-use Rattle.noise_ledger.specs.Bounds.{Numbers, limit, rotation_noise, relin_noise, switched, crossed, rounding, input_bound, sum_bound, neg_bound, plain_mul_bound, rot_bound, mul_bound, output_bound}
+use Rattle.param_set.specs.Numbers.{Numbers}
+use Rattle.noise_ledger.specs.Bounds.{limit, rotation_noise, relin_noise, switched, crossed, rounding, input_bound, sum_bound, neg_bound, plain_mul_bound, rot_bound, mul_bound, output_bound}
 use Rattle.noise_ledger.specs.Ledger.{product_bound, node_bound, bounds_from, node_bounds, place_bound, first_above, first_over, nodes_before}
 
 -- l is 3, r is 1, and L is 11

@@ -11,7 +11,8 @@ use Rattle.param_set.specs.declared.params.Params.{Params}
 use Rattle.circuit_form.specs.declared.node.Node.TheVariants.{Input, Const, Add, Rot}
 use Rattle.circuit_form.specs.Circuits.{first_wrong, first_fault, may_stand, owners}
 use Rattle.circuit_form.specs.Values.{node_value, given_after, values_from, plain_value}
-use Rattle.noise_ledger.specs.Bounds.{Numbers, numbers_of, input_bound, sum_bound, output_bound}
+use Rattle.param_set.specs.Numbers.{Numbers, numbers_of}
+use Rattle.noise_ledger.specs.Bounds.{input_bound, sum_bound, output_bound}
 use Rattle.noise_ledger.specs.Ledger.{node_bound, bounds_from, node_bounds, place_bound, first_above, first_over}
 use Rattle.cipher_spec.specs.Ciphers.{is_switch_free}
 use Rattle.proto_names.specs.Names.{rows_of}

@@ -2,7 +2,7 @@ use Rattle.std.proofs.Common.{◌≡◌, ◌∙◌, sym, ap, subst, refl, ℕ, �
 use Rattle.ring_spec.specs.Pairs.{CipherFits}
 use Rattle.draw_spec.specs.Streams.{input_stream}
 use Rattle.bfv_spec.specs.Drawn.{drawn_encryption}
-use Rattle.noise_ledger.specs.Bounds.{numbers_of}
+use Rattle.param_set.specs.Numbers.{numbers_of}
 use Rattle.param_set.specs.declared.params.Params.{Params}
 use Rattle.session_rules.specs.declared.call.Call.TheVariants as call
 use Rattle.session_rules.specs.declared.fixed.Fixed.{Fixed}

@@ -2,7 +2,7 @@ use Rattle.std.proofs.Common.{◌≡◌, ◌∙◌, sym, ap, subst, refl, ℕ, L
 use Rattle.proto_names.specs.Names.{rows_of}
 use Rattle.proto_names.specs.Instances.{instance}
 use Rattle.ring_spec.specs.Ring.{IsPoly}
-use Rattle.noise_ledger.specs.Bounds.{numbers_of}
+use Rattle.param_set.specs.Numbers.{numbers_of}
 use Rattle.param_set.specs.declared.params.Params.{Params}
 use Rattle.session_rules.specs.declared.call.Call.{Call}
 use Rattle.session_rules.specs.declared.call.Call.TheVariants as call

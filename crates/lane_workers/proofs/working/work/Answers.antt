@@ -1,6 +1,6 @@
 use Rattle.std.proofs.Common.{◌≡◌, ◌∙◌, sym, ap, subst, refl, [], ◌∷◌, Some, None}
 use Rattle.ring_spec.specs.Pairs.{CipherFits}
-use Rattle.noise_ledger.specs.Bounds.{numbers_of}
+use Rattle.param_set.specs.Numbers.{numbers_of}
 use Rattle.param_set.specs.declared.params.Params.{Params}
 use Rattle.circuit_runner.specs.declared.job.Job.{Job}
 use Rattle.session_rules.specs.declared.call.Call.TheVariants as call

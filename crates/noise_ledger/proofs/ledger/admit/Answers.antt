@@ -1,7 +1,7 @@
 -- Where all nodes keep within the limit, the output decides.
 use Rattle.std.proofs.Common.{arith}
 use Rattle.std.proofs.lemmas.Grind.{common_steps}
-use Rattle.noise_ledger.specs.Bounds.{numbers_of}
+use Rattle.param_set.specs.Numbers.{numbers_of}
 use Rattle.noise_ledger.proofs.Walks.{output_over, none_over}
 use Rattle.noise_ledger.proofs.ledger.admit.Goals as goal
 

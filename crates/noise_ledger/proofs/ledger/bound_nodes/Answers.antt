@@ -2,7 +2,8 @@
 use Rattle.std.proofs.Common.{◌<◌, refl, arith}
 use Rattle.std.proofs.lemmas.Grind.{common_steps}
 use Rattle.std.proofs.lemmas.List.Elements.{All-nil}
-use Rattle.noise_ledger.specs.Bounds.{numbers_of, limit}
+use Rattle.param_set.specs.Numbers.{numbers_of}
+use Rattle.noise_ledger.specs.Bounds.{limit}
 use Rattle.noise_ledger.specs.Ledger.{AtMost, node_bounds}
 use Rattle.noise_ledger.proofs.Walks.{stops_at, ends_at}
 use Rattle.noise_ledger.proofs.ledger.bound_nodes.Goals as goal

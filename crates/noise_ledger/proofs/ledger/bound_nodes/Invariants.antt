@@ -2,7 +2,8 @@
 -- that are left is the bounds of all; the buffer's other places are as they were.
 use Rattle.std.proofs.Common.{◌≡◌, drop, take}
 use Rattle.std.specs.Prelude.{All}
-use Rattle.noise_ledger.specs.Bounds.{numbers_of, limit}
+use Rattle.param_set.specs.Numbers.{numbers_of}
+use Rattle.noise_ledger.specs.Bounds.{limit}
 use Rattle.noise_ledger.specs.Ledger.{AtMost, bounds_from, node_bounds}
 use Rattle.noise_ledger.proofs.ledger.bound_nodes.Given as goal
 

@@ -1,7 +1,7 @@
 -- A circuit has a last node.
 use Rattle.std.proofs.Common.{arith, ◌∙◌}
 use Rattle.circuit_form.proofs.Standing.{is_circuit}
-use Rattle.noise_ledger.specs.Bounds.{numbers_of}
+use Rattle.param_set.specs.Numbers.{numbers_of}
 use Rattle.noise_ledger.proofs.Walks.{output_is}
 use Rattle.noise_ledger.proofs.ledger.bound_output.Goals as goal
 

@@ -1,7 +1,7 @@
 -- The place is one of the circuit's, so that its node is there and may stand there.
 use Rattle.std.proofs.Common.{length, arith, sym}
 use Rattle.circuit_form.proofs.Standing.{is_circuit, each_stands}
-use Rattle.noise_ledger.specs.Bounds.{numbers_of}
+use Rattle.param_set.specs.Numbers.{numbers_of}
 use Rattle.noise_ledger.proofs.Walks.{bounds_next, node_there}
 use Rattle.noise_ledger.proofs.ledger.next_bound.Goals as goal
 

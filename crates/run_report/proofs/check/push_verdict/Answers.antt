@@ -1,7 +1,7 @@
 -- A refused circuit has the bounds of the nodes before the place that is told.
 use Rattle.std.proofs.Common.{◌≡◌, ◌++◌, rules, arith}
 use Rattle.circuit_form.specs.Values.{plain_value}
-use Rattle.noise_ledger.specs.Bounds.{numbers_of}
+use Rattle.param_set.specs.Numbers.{numbers_of}
 use Rattle.noise_ledger.specs.Ledger.{nodes_before}
 use Rattle.run_report.specs.Checking.{node_lines}
 use Rattle.run_report.proofs.Checked.{over_within, refused}

@@ -1,5 +1,5 @@
 use Rattle.std.proofs.Common.{◌≡◌, map, take}
-use Rattle.noise_ledger.specs.Bounds.{numbers_of}
+use Rattle.param_set.specs.Numbers.{numbers_of}
 use Rattle.session_rules.specs.Fixing.{plan_of}
 use Rattle.session_spec.specs.Settings.{nodes_of}
 use Rattle.session_state.proofs.opening.plans_of.Given as goal
