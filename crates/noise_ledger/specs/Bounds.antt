@@ -1,34 +1,15 @@
 -- The bound on the noise of a node, one row a kind of node. All numbers are whole, and each division
 -- by 2 is exact, since n is even. docs/MATHEMATICS.md, 'Noise bounds', has the argument.
-use Rattle.std.specs.Prelude.{ℕ, ◌+◌, ◌-◌, ◌*◌, ◌/◌, ◌%◌, ◌^◌}
+use Rattle.std.specs.Prelude.{ℕ, ◌+◌, ◌-◌, ◌*◌, ◌/◌, ◌%◌, ◌^◌, cond}
 use Rattle.param_set.specs.Moduli.{noise_limit, digit_rows}
+use Rattle.param_set.specs.Numbers.{Numbers, numbers_of}
 use Rattle.param_set.specs.declared.params.Params.{Params}
 
 -- ---- the numbers that bounds are made of
 
--- n, q, t, b, B, D_f, N and T, in this order
-pub record Numbers : Type 0 where
-  pub n : ℕ
-  pub q : ℕ
-  pub t : ℕ
-  pub digit_bits : ℕ
-  pub err : ℕ
-  pub flood : ℕ
-  pub parties : ℕ
-  pub threshold : ℕ
-
--- those of a session
-abbrev pub numbers_of : Params → Numbers
-numbers_of p = record {
-  n = p.n;
-  q = p.q;
-  t = p.t;
-  digit_bits = p.digit_bits;
-  err = p.err;
-  flood = p.flood;
-  parties = p.parties;
-  threshold = p.threshold;
-}
+-- those of a session, with another T
+abbrev pub numbers_for : Params → ℕ → Numbers
+numbers_for p threshold = record (numbers_of p) { threshold = threshold }
 
 -- L, the greatest bound under which an output is decrypted
 abbrev pub limit : Numbers → ℕ
@@ -40,10 +21,14 @@ rest p = p.q % p.t
 
 -- ---- key switches
 
+-- W, which no digit of the gadget passes in absolute value: 2^b - 1, and 2^(b-1) where digits are balanced
+abbrev pub widest_digit : Numbers → ℕ
+widest_digit p = cond p.balanced (2 ^ (p.digit_bits - 1)) (2 ^ p.digit_bits - 1)
+
 -- what a key switch adds where the noise of each row of its key has size at most e: l products of a
--- polynomial of n digits, each at most 2^b - 1, with a row's noise
+-- polynomial of n digits, each of size at most W, with a row's noise
 unfoldable pub switched : Numbers → ℕ → ℕ
-switched p e = digit_rows p.q p.digit_bits * p.n * (2 ^ p.digit_bits - 1) * e
+switched p e = digit_rows p.q p.digit_bits * p.n * widest_digit p * e
 
 -- the noise of a row of a rotation key: T * B
 abbrev pub rotation_noise : Numbers → ℕ

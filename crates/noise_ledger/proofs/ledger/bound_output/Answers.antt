@@ -1,7 +1,7 @@
 -- A circuit has a last node.
 use Rattle.std.proofs.Common.{arith, ◌∙◌}
 use Rattle.circuit_form.proofs.Standing.{is_circuit}
-use Rattle.param_set.specs.Numbers.{numbers_of}
+use Rattle.noise_ledger.specs.Bounds.{numbers_for}
 use Rattle.noise_ledger.proofs.Walks.{output_is}
 use Rattle.noise_ledger.proofs.ledger.bound_output.Goals as goal
 
@@ -16,4 +16,4 @@ bounds-bounds-bounds c =
     omega (arith, (is_circuit p.n p.t p.parties c.args.circuit.now c.requires.circuit).some, c.requires.places)
 
 pub returns : goal.returns
-returns c = c.output_bound.ensures.value ∙ output_is (numbers_of c.args.params.now) c.args.circuit.now c.args.bounds.now c.requires.bounds c.requires.places
+returns c = c.output_bound_for.ensures.value ∙ output_is (numbers_for c.args.params.now c.args.threshold) c.args.circuit.now c.args.bounds.now c.requires.bounds c.requires.places

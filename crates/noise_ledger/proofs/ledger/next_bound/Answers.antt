@@ -1,7 +1,7 @@
 -- The place is one of the circuit's, so that its node is there and may stand there.
 use Rattle.std.proofs.Common.{length, arith, sym}
 use Rattle.circuit_form.proofs.Standing.{is_circuit, each_stands}
-use Rattle.param_set.specs.Numbers.{numbers_of}
+use Rattle.noise_ledger.specs.Bounds.{numbers_for}
 use Rattle.noise_ledger.proofs.Walks.{bounds_next, node_there}
 use Rattle.noise_ledger.proofs.ledger.next_bound.Goals as goal
 
@@ -21,5 +21,5 @@ unreachable-requires c =
 
 pub returns : goal.returns
 returns c = record {
-  next = bounds_next (numbers_of c.args.params.now) c.args.circuit.now c.args.done.now (length c.args.done.now) c.node_bound.result c.in-Some.node.now (sym c.in-Some.ensures) c.node_bound.ensures;
+  next = bounds_next (numbers_for c.args.params.now c.args.threshold) c.args.circuit.now c.args.done.now (length c.args.done.now) c.node_bound.result c.in-Some.node.now (sym c.in-Some.ensures) c.node_bound.ensures;
 }
