@@ -4,3 +4,4 @@ pub mod Quotients
 pub mod Points
 pub mod Shares
 pub mod Instances
+pub mod Seeds

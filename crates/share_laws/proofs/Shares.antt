@@ -1,4 +1,4 @@
--- The parts of as many parties as the threshold sum to the secret, and the secret is small.
+-- The parts of as many parties as the threshold sum to the secret, and the secret is small, whoever dealt.
 use Rattle.std.proofs.Common.{◌≡◌, ℕ, zero, suc, ◌*◌, ◌^◌, ◌≤◌, ◌<◌, List, [], ◌∷◌, map, length, get_or, refl, sym, ap, ◌∙◌, arith}
 use Rattle.std.specs.Prelude.{true, IsTrue, All, ℤ, pos, ◌+ℤ◌, ◌*ℤ◌}
 use Rattle.std.specs.List.{range_with_len}
@@ -20,7 +20,7 @@ use Rattle.bfv_laws.proofs.Draws.{ternary_poly_is, size_ternary_poly}
 use Rattle.draw_spec.specs.Streams.{part_stream}
 use Rattle.share_spec.specs.Sets.{has, members}
 use Rattle.share_spec.specs.Lagrange.{ratio, lagrange}
-use Rattle.share_spec.specs.Dealing.{own_part, dealing_at, dealing, power, value_at, dealt, share, secret, part, parts}
+use Rattle.share_spec.specs.Dealing.{own_part, dealing_at, dealing, power, value_at, dealt, dealt_by, own_by, share, secret, part, parts}
 use Rattle.share_laws.proofs.Over.{over, over_times, over_swap, over_congruent}
 use Rattle.share_laws.proofs.Interpolation.{lambda, mixed, poly, interpolates}
 use Rattle.share_laws.proofs.Quotients.{ratios_divide}
@@ -88,47 +88,52 @@ dealt_at_zero q n (suc t) i seed h =
 
 -- ---- parts
 
-share_coefficient : (q n t p i : ℕ) (seeds : List (List ℕ)) → 0 < q → i < n → IsCongruent q (coefficient (share q n t seeds p) i) (over (λ seed. poly (row i (dealing q n t seed)) p) seeds)
-unfolding share
-share_coefficient q n t p i seeds h l =
-    congruent_chain (sum_coefficient q n i (map (dealt q n t p) seeds) h l)
-    (congruent_chain (congruent_equal q (over (λ f. coefficient f i) (map (dealt q n t p) seeds)) (over (λ seed. coefficient (dealt q n t p seed) i) seeds) (over_map (λ f. coefficient f i) (dealt q n t p) seeds))
-    (over_congruent q (λ seed. coefficient (dealt q n t p seed) i) (λ seed. poly (row i (dealing q n t seed)) p) seeds (λ seed. dealt_coefficient q n t p i seed h l)))
+share_coefficient : (q n t p i : ℕ) (seed : ℕ → List ℕ) (dealers : List ℕ) → 0 < q → i < n →
+    IsCongruent q (coefficient (share q n t seed dealers p) i) (over (λ d. poly (row i (dealing q n t (seed d))) p) dealers)
+unfolding share dealt_by
+share_coefficient q n t p i seed dealers h l =
+    let dealt_at = dealt_by q n t seed p in
+    congruent_chain (sum_coefficient q n i (map dealt_at dealers) h l)
+    (congruent_chain (congruent_equal q (over (λ f. coefficient f i) (map dealt_at dealers)) (over (λ d. coefficient (dealt_at d) i) dealers) (over_map (λ f. coefficient f i) dealt_at dealers))
+    (over_congruent q (λ d. coefficient (dealt_at d) i) (λ d. poly (row i (dealing q n t (seed d))) p) dealers (λ d. dealt_coefficient q n t p i (seed d) h l)))
 
-part_coefficient : (q n t i : ℕ) (seeds : List (List ℕ)) (set j : ℕ) → 0 < q → i < n → has set j ≡ true →
-    IsCongruent q (coefficient (part q n t seeds set j) i) (over (λ seed. lambda (λ x k. pos (ratio q x k)) (members set) j *ℤ poly (row i (dealing q n t seed)) j) seeds)
+part_coefficient : (q n t i : ℕ) (seed : ℕ → List ℕ) (dealers : List ℕ) (set j : ℕ) → 0 < q → i < n → has set j ≡ true →
+    IsCongruent q (coefficient (part q n t seed dealers set j) i)
+    (over (λ d. lambda (λ x k. pos (ratio q x k)) (members set) j *ℤ poly (row i (dealing q n t (seed d))) j) dealers)
 unfolding part
-part_coefficient q n t i seeds set j h l m =
+part_coefficient q n t i seed dealers set j h l m =
     let lam = lambda (λ x k. pos (ratio q x k)) (members set) j in
-    congruent_chain ((multiple_agrees (lagrange q set j) (share q n t seeds j) h (agree_self q n (coefficient (share q n t seeds j)))).each i l)
-    (congruent_chain (congruent_product (lagrange_is q set j h m) (share_coefficient q n t j i seeds h l))
-    (congruent_equal q (lam *ℤ over (λ seed. poly (row i (dealing q n t seed)) j) seeds) (over (λ seed. lam *ℤ poly (row i (dealing q n t seed)) j) seeds)
-    (sym (over_times lam (λ seed. poly (row i (dealing q n t seed)) j) seeds))))
+    let value = λ (d : ℕ). poly (row i (dealing q n t (seed d))) j in
+    congruent_chain ((multiple_agrees (lagrange q set j) (share q n t seed dealers j) h (agree_self q n (coefficient (share q n t seed dealers j)))).each i l)
+    (congruent_chain (congruent_product (lagrange_is q set j h m) (share_coefficient q n t j i seed dealers h l))
+    (congruent_equal q (lam *ℤ over value dealers) (over (λ d. lam *ℤ value d) dealers) (sym (over_times lam value dealers))))
 
--- the parts of as many members as the threshold sum to the secret
-pub parts_sum : (q n t : ℕ) (seeds : List (List ℕ)) (set : ℕ) → 0 < q → IsTrue (indivisible q 31) → 1 ≤ t → t ≤ length (members set) →
-    ring_total q n (parts q n t seeds set) ≡ secret q n seeds
-unfolding parts secret dealing
-parts_sum q n t seeds set h small low few =
+-- the parts of as many members as the threshold sum to the secret, whoever dealt
+pub parts_sum : (q n t : ℕ) (seed : ℕ → List ℕ) (dealers : List ℕ) (set : ℕ) → 0 < q → IsTrue (indivisible q 31) → 1 ≤ t → t ≤ length (members set) →
+    ring_total q n (parts q n t seed dealers set) ≡ secret q n seed dealers
+unfolding parts secret dealing own_by
+parts_sum q n t seed dealers set h small low few =
     let r = λ (x k : ℕ). pos (ratio q x k) in
     let js = members set in
-    let whole = ring_total q n (map (part q n t seeds set) js) in
-    let own = ring_total q n (map (own_part q n) seeds) in
-    same_polys q n whole own h (total_poly q n (map (part q n t seeds set) js) h) (total_poly q n (map (own_part q n) seeds) h) (record {
+    let part_at = part q n t seed dealers set in
+    let own_at = own_by q n seed in
+    let whole = ring_total q n (map part_at js) in
+    let own = ring_total q n (map own_at dealers) in
+    same_polys q n whole own h (total_poly q n (map part_at js) h) (total_poly q n (map own_at dealers) h) (record {
       each = λ i l.
-          let g = λ (seed : List ℕ). poly (row i (dealing q n t seed)) in
-          congruent_chain (sum_coefficient q n i (map (part q n t seeds set) js) h l)
-          (congruent_chain (congruent_equal q (over (λ f. coefficient f i) (map (part q n t seeds set) js)) (over (λ j. coefficient (part q n t seeds set j) i) js) (over_map (λ f. coefficient f i) (part q n t seeds set) js))
-          (congruent_chain (over_congruent_where q (λ j. has set j ≡ true) (λ j. coefficient (part q n t seeds set j) i) (λ j. over (λ seed. lambda r js j *ℤ g seed j) seeds) js (members_in set)
-          (λ j m. part_coefficient q n t i seeds set j h l m))
-          (congruent_chain (congruent_equal q (over (λ j. over (λ seed. lambda r js j *ℤ g seed j) seeds) js) (over (λ seed. mixed r js (g seed)) seeds) (over_swap (λ j seed. lambda r js j *ℤ g seed j) js seeds))
-          (congruent_chain (over_congruent q (λ seed. mixed r js (g seed)) (λ seed. coefficient (own_part q n seed) i) seeds
-          (λ seed. congruent_chain
-          (interpolates q r (row i (dealing q n t seed)) js (ratios_divide q h small) (members_distinct set)
-          (omega (arith, length_row i (dealing q n t seed), length-map-range_with_len (dealing_at q n seed) 0 t)))
-          (congruent_equal q (g seed 0) (coefficient (own_part q n seed) i) (dealt_at_zero q n t i seed low))))
-          (congruent_chain (congruent_equal q (over (λ seed. coefficient (own_part q n seed) i) seeds) (over (λ f. coefficient f i) (map (own_part q n) seeds)) (sym (over_map (λ f. coefficient f i) (own_part q n) seeds)))
-          (congruent_back (sum_coefficient q n i (map (own_part q n) seeds) h l)))))));
+          let g = λ (d : ℕ). poly (row i (dealing q n t (seed d))) in
+          congruent_chain (sum_coefficient q n i (map part_at js) h l)
+          (congruent_chain (congruent_equal q (over (λ f. coefficient f i) (map part_at js)) (over (λ j. coefficient (part_at j) i) js) (over_map (λ f. coefficient f i) part_at js))
+          (congruent_chain (over_congruent_where q (λ j. has set j ≡ true) (λ j. coefficient (part_at j) i) (λ j. over (λ d. lambda r js j *ℤ g d j) dealers) js (members_in set)
+          (λ j m. part_coefficient q n t i seed dealers set j h l m))
+          (congruent_chain (congruent_equal q (over (λ j. over (λ d. lambda r js j *ℤ g d j) dealers) js) (over (λ d. mixed r js (g d)) dealers) (over_swap (λ j d. lambda r js j *ℤ g d j) js dealers))
+          (congruent_chain (over_congruent q (λ d. mixed r js (g d)) (λ d. coefficient (own_at d) i) dealers
+          (λ d. congruent_chain
+          (interpolates q r (row i (dealing q n t (seed d))) js (ratios_divide q h small) (members_distinct set)
+          (omega (arith, length_row i (dealing q n t (seed d)), length-map-range_with_len (dealing_at q n (seed d)) 0 t)))
+          (congruent_equal q (g d 0) (coefficient (own_at d) i) (dealt_at_zero q n t i (seed d) low))))
+          (congruent_chain (congruent_equal q (over (λ d. coefficient (own_at d) i) dealers) (over (λ f. coefficient f i) (map own_at dealers)) (sym (over_map (λ f. coefficient f i) own_at dealers)))
+          (congruent_back (sum_coefficient q n i (map own_at dealers) h l)))))));
     })
 
 -- ---- the secret
@@ -146,16 +151,17 @@ all_of : {A : Type 0} (P : A → Type 0) (xs : List A) → ((x : A) → P x) →
 all_of P [] h = All-nil P
 all_of P (x ∷ xs) h = All-cons P x xs (h x) (all_of P xs h)
 
--- the secret is at most as large as there are parties
-pub secret_small : (q n : ℕ) (seeds : List (List ℕ)) → 0 < q → size q (secret q n seeds) ≤ length seeds
-unfolding secret
-secret_small q n seeds h =
-    let e : size q (ring_total q n (map (own_part q n) seeds)) ≤ length (map (own_part q n) seeds) * 1 =
-    size_total q n 1 (map (own_part q n) seeds) h
-    (All-map (IsPoly q n) (own_part q n) seeds (all_of (λ seed. IsPoly q n (own_part q n seed)) seeds (λ seed. own_part_is q n seed h)))
-    (All-map (λ f. size q f ≤ 1) (own_part q n) seeds (all_of (λ seed. size q (own_part q n seed) ≤ 1) seeds (λ seed. own_part_small q n seed h))) in
-    omega (arith, length-map seeds (own_part q n))
+-- the secret is at most as large as there are dealers
+pub secret_small : (q n : ℕ) (seed : ℕ → List ℕ) (dealers : List ℕ) → 0 < q → size q (secret q n seed dealers) ≤ length dealers
+unfolding secret own_by
+secret_small q n seed dealers h =
+    let own = own_by q n seed in
+    let e : size q (ring_total q n (map own dealers)) ≤ length (map own dealers) * 1 =
+    size_total q n 1 (map own dealers) h
+    (All-map (IsPoly q n) own dealers (all_of (λ d. IsPoly q n (own d)) dealers (λ d. own_part_is q n (seed d) h)))
+    (All-map (λ f. size q f ≤ 1) own dealers (all_of (λ d. size q (own d) ≤ 1) dealers (λ d. own_part_small q n (seed d) h))) in
+    omega (arith, length-map dealers own)
 
-pub secret_is : (q n : ℕ) (seeds : List (List ℕ)) → 0 < q → IsPoly q n (secret q n seeds)
+pub secret_is : (q n : ℕ) (seed : ℕ → List ℕ) (dealers : List ℕ) → 0 < q → IsPoly q n (secret q n seed dealers)
 unfolding secret
-secret_is q n seeds h = total_poly q n (map (own_part q n) seeds) h
+secret_is q n seed dealers h = total_poly q n (map (own_by q n seed) dealers) h

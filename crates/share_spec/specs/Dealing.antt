@@ -36,22 +36,30 @@ value_at q n fs p = residues q n (λ i. total (length fs) (power fs p i))
 unfoldable pub dealt : ℕ → ℕ → ℕ → ℕ → List ℕ → List ℕ
 dealt q n t p seed = value_at q n (dealing q n t seed) p
 
--- ---- all parties, each by its seed
+-- ---- all dealers, where `seed` tells the seed of a party by its number
 
--- the share at point p: the sum of what all parties deal to it
-unfoldable pub share : ℕ → ℕ → ℕ → List (List ℕ) → ℕ → List ℕ
-share q n t seeds p = ring_total q n (map (dealt q n t p) seeds)
+-- what party j deals to point p
+unfoldable pub dealt_by : ℕ → ℕ → ℕ → (ℕ → List ℕ) → ℕ → ℕ → List ℕ
+dealt_by q n t seed p j = dealt q n t p (seed j)
 
--- the secret: the sum of the parties' own parts
-unfoldable pub secret : ℕ → ℕ → List (List ℕ) → List ℕ
-secret q n seeds = ring_total q n (map (own_part q n) seeds)
+-- the part of party j
+unfoldable pub own_by : ℕ → ℕ → (ℕ → List ℕ) → ℕ → List ℕ
+own_by q n seed j = own_part q n (seed j)
+
+-- the share at point p: the sum of what all dealers deal to it for the threshold t
+unfoldable pub share : ℕ → ℕ → ℕ → (ℕ → List ℕ) → List ℕ → ℕ → List ℕ
+share q n t seed dealers p = ring_total q n (map (dealt_by q n t seed p) dealers)
+
+-- the secret: the sum of the dealers' own parts
+unfoldable pub secret : ℕ → ℕ → (ℕ → List ℕ) → List ℕ → List ℕ
+secret q n seed dealers = ring_total q n (map (own_by q n seed) dealers)
 
 -- ---- the parties of a set
 
 -- part_j(P) = lambda_j(P) * share_j: what party j takes part with when the set P acts
-unfoldable pub part : ℕ → ℕ → ℕ → List (List ℕ) → ℕ → ℕ → List ℕ
-part q n t seeds set j = ring_multiple q n (lagrange q set j) (share q n t seeds j)
+unfoldable pub part : ℕ → ℕ → ℕ → (ℕ → List ℕ) → List ℕ → ℕ → ℕ → List ℕ
+part q n t seed dealers set j = ring_multiple q n (lagrange q set j) (share q n t seed dealers j)
 
 -- the parts of all members, rising
-unfoldable pub parts : ℕ → ℕ → ℕ → List (List ℕ) → ℕ → List (List ℕ)
-parts q n t seeds set = map (part q n t seeds set) (members set)
+unfoldable pub parts : ℕ → ℕ → ℕ → (ℕ → List ℕ) → List ℕ → ℕ → List (List ℕ)
+parts q n t seed dealers set = map (part q n t seed dealers set) (members set)

@@ -1,3 +1,4 @@
 pub mod Sets
 pub mod Lagrange
 pub mod Dealing
+pub mod Seeds
