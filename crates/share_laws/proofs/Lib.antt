@@ -5,3 +5,4 @@ pub mod Points
 pub mod Shares
 pub mod Instances
 pub mod Seeds
+pub mod Streams
