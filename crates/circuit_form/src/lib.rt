@@ -4,7 +4,8 @@
 //! one is its output. `Circuit::new` keeps the rules and names the first node that breaks one. The
 //! plain value of a circuit is the polynomial of its output in Z_t\[X\]/(X^n+1), the ring of
 //! plaintexts of BFV (Fan and Vercauteren 2012, section 3): callers may rely on it as what an
-//! evaluation on ciphertexts has to give. Nothing is said here of ciphertexts, keys or noise.
+//! evaluation on ciphertexts has to give. Products are made by transforms modulo one fixed modulus, of
+//! which no contract speaks. Nothing is said here of ciphertexts, keys or noise.
 #![tactic(auto)]
 
 mod circuit;

@@ -15,6 +15,8 @@ mod parameters;
 #[cfg(test)]
 mod party_sets;
 #[cfg(test)]
+mod plain_products;
+#[cfg(test)]
 mod ring;
 #[cfg(test)]
 mod schoolbook;

@@ -45,7 +45,7 @@ fn multiply(tables: &Tables, a: &mut [u64], b: &mut [u64])
 }
 
 /// n residues, each a multiple of the one before it.
-fn sample(alloc: Global, q: u64, n: u64, first: u64) -> Result<Vec<u64>, AllocError>
+pub(crate) fn sample(alloc: Global, q: u64, n: u64, first: u64) -> Result<Vec<u64>, AllocError>
     requires { 0 < q }
     ensures { IfOk result (λ f. IsPoly q n f.items) }
 {
