@@ -7,6 +7,7 @@ use Rattle.std.proofs.Math.Nat.{mod-eq_of_lt}
 use Rattle.bfv_spec.specs.Drawn.{ternary_poly, uniform_poly}
 use Rattle.draw_spec.specs.Streams.{part_stream}
 use Rattle.share_spec.specs.Dealing.{own_part, dealing_at, dealing}
+use Rattle.share_laws.proofs.Values.{dealing_number}
 
 -- the part alone
 pub dealing_first : (q n : ℕ) (seed : List ℕ) → dealing q n 1 seed ≡ ternary_poly q n seed 0 0 ∷ []
@@ -42,4 +43,4 @@ place_more n d place h l m e =
     mod-eq_of_lt small ∙ omega arith
 
 -- for the tactics
-pub ruleset one_by_one = (dealing_first, dealing_more, place_more)
+pub ruleset one_by_one = (dealing_first, dealing_more, place_more, dealing_number)

@@ -1,8 +1,8 @@
 ghost use Rattle.std.specs.Prelude.{◌≡◌, ℕ, ◌<◌, ◌≤◌, All, List, [], length, IfOk, slice_index_or};
-ghost use Rattle.ring_spec.specs.Ring.{IsPoly};
+ghost use Rattle.ring_spec.specs.Ring.{IsPoly, ring_sum};
 ghost use Rattle.share_spec.specs.Dealing.{dealing, value_at};
 
-use crate::values::horner;
+use crate::values::{add_each, horner};
 use mod_ring::{Poly, Ring, of_residues};
 use mod_word::Modulus;
 use ring_draws::{ternary, uniform};
@@ -30,7 +30,9 @@ impl Dealing {
     /// Draws the part, and then one uniform polynomial for each degree from 1 to T - 1.
     #[tactic(auto, using(crate::proofs::Draws::one_by_one))]
     pub fn new(alloc: Global, ring: &Ring, seed: [u8; 32]) -> Result<Dealing, AllocError>
-        ensures value { IfOk result (λ d. d ≡ dealing ring.now.params.q ring.now.params.n ring.now.params.threshold seed) }
+        ensures value { IfOk result (λ d. d
+            ≡ dealing ring.now.params.q ring.now.params.n ring.now.params.threshold seed) }
+        ensures number { IfOk result (λ d. length d ≡ ring.now.params.threshold) }
         ensures fits { IfOk result (λ d. All (IsPoly ring.now.params.q ring.now.params.n) d) }
     {
         let mut tape = Tape::new(seed, STREAM);
@@ -73,5 +75,25 @@ impl Dealing {
             );
         }
         Ok(of_residues(params, value))
+    }
+
+    /// Adds what another party deals for the same threshold: at each point the value is then the sum of
+    /// both.
+    pub fn add(&mut self, ring: &Ring, other: &Dealing)
+        requires number { length other.now ≡ length self.old }
+        requires left { All (IsPoly ring.now.params.q ring.now.params.n) self.old }
+        requires right { All (IsPoly ring.now.params.q ring.now.params.n) other.now }
+        ensures values { (p : ℕ) → value_at ring.now.params.q ring.now.params.n self.new p
+            ≡ ring_sum ring.now.params.q ring.now.params.n
+                (value_at ring.now.params.q ring.now.params.n self.old p)
+                (value_at ring.now.params.q ring.now.params.n other.now p) }
+        ensures number { length self.new ≡ length self.old }
+        ensures fits { All (IsPoly ring.now.params.q ring.now.params.n) self.new }
+    {
+        add_each(
+            ring,
+            self.coefficients.as_mut_slice(),
+            other.coefficients.as_slice(),
+        );
     }
 }

@@ -43,16 +43,17 @@ pub fn additive(
     Ok(part)
 }
 
-/// The secret, from the parts of as many parties as the threshold.
+/// The secret, from the parts of as many parties as the threshold, whoever dealt it and for whichever
+/// threshold.
 pub fn reconstruct(alloc: Global, ring: &Ring, parts: &[Poly]) -> Result<Poly, AllocError>
     requires { All (IsPoly ring.now.params.q ring.now.params.n) parts.now }
     ensures value { IfOk result (λ f. f ≡ ring_total ring.now.params.q ring.now.params.n parts.now) }
-    ensures secret { (seeds : List (List ℕ)) → (set : ℕ) → count set ≡ ring.now.params.threshold
-        → parts.now ≡ parts_of ring.now.params.q ring.now.params.n ring.now.params.threshold seeds set
-        → IfOk result (λ f. f ≡ secret ring.now.params.q ring.now.params.n seeds) }
-    ensures small { (seeds : List (List ℕ)) → (set : ℕ) → count set ≡ ring.now.params.threshold → length seeds ≡ ring.now.params.parties
-        → parts.now ≡ parts_of ring.now.params.q ring.now.params.n ring.now.params.threshold seeds set
-        → IfOk result (λ f. size ring.now.params.q f ≤ ring.now.params.parties) }
+    ensures secret { (t : ℕ) → (seed : ℕ → List ℕ) → (dealers : List ℕ) → (set : ℕ) → 1 ≤ t → t ≤ count set
+        → parts.now ≡ parts_of ring.now.params.q ring.now.params.n t seed dealers set
+        → IfOk result (λ f. f ≡ secret ring.now.params.q ring.now.params.n seed dealers) }
+    ensures small { (t : ℕ) → (seed : ℕ → List ℕ) → (dealers : List ℕ) → (set : ℕ) → 1 ≤ t → t ≤ count set
+        → parts.now ≡ parts_of ring.now.params.q ring.now.params.n t seed dealers set
+        → IfOk result (λ f. size ring.now.params.q f ≤ length dealers) }
 {
     combine(alloc, ring, parts)
 }

@@ -1,6 +1,7 @@
-ghost use Rattle.std.specs.Prelude.{◌≡◌, ℕ, ◌+◌, ◌*◌, ◌%◌, ◌^◌, ◌<◌, ◌≤◌, length};
+ghost use Rattle.std.specs.Prelude.{◌≡◌, ℕ, ◌+◌, ◌*◌, ◌%◌, ◌^◌, ◌<◌, ◌≤◌, [], length, get_or, All};
 ghost use Rattle.ring_spec.specs.Ring.{IsPoly, ring_sum, ring_multiple};
 
+use mod_ring::{Poly, Ring, add_into};
 use mod_word::Modulus;
 
 /// x * point + y modulo q, without a division. A point is at most 32, so that the sum fits a word.
@@ -25,5 +26,19 @@ pub(crate) fn horner(modulus: &Modulus, value: &mut [u64], point: u64, f: &[u64]
 {
     for i in 0..value.len() {
         value[i] = step(modulus, value[i], point, f[i]);
+    }
+}
+
+/// Adds each polynomial of a list to that at the same place of another.
+pub(crate) fn add_each(ring: &Ring, sums: &mut [Poly], others: &[Poly])
+    requires number { length others.now ≡ length sums.old }
+    requires left { All (IsPoly ring.now.params.q ring.now.params.n) sums.old }
+    requires right { All (IsPoly ring.now.params.q ring.now.params.n) others.now }
+    ensures number { length sums.new ≡ length sums.old }
+    ensures each { (k : ℕ) → k < length sums.old → get_or sums.new k []
+        ≡ ring_sum ring.now.params.q ring.now.params.n (get_or sums.old k []) (get_or others.now k []) }
+{
+    for k in 0..sums.len() {
+        add_into(ring, &mut sums[k], &others[k]);
     }
 }

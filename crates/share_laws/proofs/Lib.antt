@@ -6,3 +6,4 @@ pub mod Shares
 pub mod Instances
 pub mod Seeds
 pub mod Streams
+pub mod Values

@@ -10,7 +10,7 @@ use Rattle.ring_laws.specs.Aggregate.{ring_total}
 use Rattle.share_spec.specs.Sets.{members}
 use Rattle.share_spec.specs.Lagrange.{lagrange}
 use Rattle.share_spec.specs.Dealing.{own_part, dealt, dealt_by, own_by}
-use Rattle.share_spec.specs.Dealing.{share as share_by, secret as secret_by, part as part_by, parts as parts_by}
+use Rattle.share_spec.specs.Dealing.{share as share_by, secret as secret_by, part as part_by}
 use Rattle.share_spec.specs.Seeds.{seed_in, dealers_in, share, secret, part, parts}
 use Rattle.share_laws.proofs.Shares.{parts_sum as parts_sum_by, secret_small as secret_small_by, secret_is as secret_is_by}
 
