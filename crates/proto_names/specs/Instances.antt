@@ -29,9 +29,9 @@ is_done σ i = is_of σ i && is_complete i.stage
 -- ---- issued
 
 -- a new instance, behind others: its number is the next one, its attempt one more than those of its
--- signature, and nobody has sent
-unfoldable pub fresh : List Instance → Signature → PartySet → ℕ → Instance
-fresh is σ set round1 =
+-- signature, and nobody has sent; it is for the group at a place
+unfoldable pub fresh : List Instance → Signature → PartySet → ℕ → ℕ → Instance
+fresh is σ set round1 group =
     record {
       id = length is + 1;
       signature = σ;
@@ -40,10 +40,11 @@ fresh is σ set round1 =
       sent = record { bits = 0 };
       stage = Opened;
       round1 = round1;
+      group = group;
     }
 
-abbrev pub with_fresh : List Instance → Signature → PartySet → ℕ → List Instance
-with_fresh is σ set round1 = is ++ fresh is σ set round1 ∷ []
+abbrev pub with_fresh : List Instance → Signature → PartySet → ℕ → ℕ → List Instance
+with_fresh is σ set round1 group = is ++ fresh is σ set round1 group ∷ []
 
 -- ---- shares
 

@@ -35,6 +35,15 @@ rows_of Rlk2 l = 2 * l
 rows_of (Rot g) l = l
 rows_of (Dec circuit) l = 1
 
+-- the number of polynomials that its shares are made from: the sums of the first round for the second one,
+-- the second part of the ciphertext for a decryption
+abbrev pub polys_of_brief : Signature → ℕ → ℕ
+polys_of_brief Pk l = 0
+polys_of_brief Rlk1 l = 0
+polys_of_brief Rlk2 l = 2 * l
+polys_of_brief (Rot g) l = 0
+polys_of_brief (Dec circuit) l = 1
+
 -- ---- stages
 
 abbrev pub is_opened : Stage → Bool

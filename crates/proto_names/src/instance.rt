@@ -26,4 +26,6 @@ pub struct Instance {
     pub stage: Stage,
     /// The instance of the first round whose second round this is, and 0 for all other signatures.
     pub round1: u32,
+    /// The place, from 0 on, of the group for which it was issued.
+    pub group: u32,
 }

@@ -1,4 +1,5 @@
-//! Names that the protocols share: signatures, instances, sets of parties, and the streams of draws.
+//! Names that the protocols share: signatures, instances, sets of parties, the groups that hold the
+//! secret one after the other, and the streams of draws.
 //!
 //! A `Signature` names a protocol and what it is for; an `Instance` is one run of it by some parties.
 //! A `PartySet` is the bits of a number, of which bit p - 1 stands for party p, 1 to 32. An instance
@@ -7,12 +8,14 @@
 //! when is said elsewhere.
 #![tactic(auto)]
 
+mod group;
 mod instance;
 mod sets;
 mod signature;
 mod steps;
 mod streams;
 
+pub use group::{Group, Groups};
 pub use instance::{Instance, Stage};
 pub use sets::PartySet;
 pub use signature::{Signature, rows_of};

@@ -38,11 +38,17 @@ fn attempts(instances: &[Instance], signature: Signature) -> usize
         .count()
 }
 
-/// A new instance, to be put behind others.
+/// A new instance, to be put behind others, for the group at a place.
 #[tactic(auto, unfolding(crate::specs::Instances::fresh))]
-pub fn fresh(instances: &[Instance], signature: Signature, set: PartySet, round1: u32) -> Instance
+pub fn fresh(
+    instances: &[Instance],
+    signature: Signature,
+    set: PartySet,
+    round1: u32,
+    group: u32,
+) -> Instance
     requires { length instances.now < 2 ^ 30 }
-    ensures { result ≡ fresh instances.now signature set round1 }
+    ensures { result ≡ fresh instances.now signature set round1 group }
 {
     Instance {
         id: instances.len() as u32 + 1,
@@ -52,6 +58,7 @@ pub fn fresh(instances: &[Instance], signature: Signature, set: PartySet, round1
         sent: PartySet { bits: 0 },
         stage: Stage::Opened,
         round1,
+        group,
     }
 }
 

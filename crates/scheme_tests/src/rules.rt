@@ -104,6 +104,7 @@ fn ready(alloc: Global, fixed: &Fixed, missing: usize) -> Result<Option<u32>, Al
         sent: SET,
         stage: Stage::Complete,
         round1: 0,
+        group: 0,
     }];
     let given = vec![in alloc; Given::none(alloc, missing)?]?;
     let idle = [CircuitState::Idle];

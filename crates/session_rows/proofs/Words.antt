@@ -118,10 +118,11 @@ one_three = parties 5
 abbrev pub two_three : PartySet
 two_three = parties 6
 
--- number, signature, parties, attempt, those that sent, stage, and the number of the first round
+-- number, signature, parties, attempt, those that sent, stage, and the number of the first round; its group is
+-- the first
 abbrev pub issued : ℕ → Signature → PartySet → ℕ → PartySet → Stage → ℕ → Instance
 issued id σ set attempt sent stage round1 =
-    record { id = id; signature = σ; set = set; attempt = attempt; sent = sent; stage = stage; round1 = round1 }
+    record { id = id; signature = σ; set = set; attempt = attempt; sent = sent; stage = stage; round1 = round1; group = 0 }
 
 -- ---- calls with their replies
 

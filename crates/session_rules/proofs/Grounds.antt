@@ -218,8 +218,8 @@ move_asks : (f : Fixed) (s : State) (m : Move) → Grounded f s → MoveIs f s m
 unfolding moved instances_after fresh
 move_asks f s m g (gives_up i by none n d lost e) k later =
     asked_as_many f s (moved s m) g k later (ap (λ (z : Move). length (instances_after s.instances z)) e ∙ void_length i.id by s.instances)
-move_asks f s m g (second i none n d all needed e) k later = rw e (asked_pushed f s (fresh s.instances Rlk2 i.set i.id) g needed)
-move_asks f s m g (other σ no_second none many needed e) k later = rw e (asked_pushed f s (fresh s.instances σ (least_present f s) 0) g needed)
+move_asks f s m g (second i none n d all needed e) k later = rw e (asked_pushed f s (fresh s.instances Rlk2 i.set i.id 0) g needed)
+move_asks f s m g (other σ no_second none many needed e) k later = rw e (asked_pushed f s (fresh s.instances σ (least_present f s) 0 0) g needed)
 
 -- ---- any deed, any call, any history
 

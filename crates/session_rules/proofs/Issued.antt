@@ -307,10 +307,10 @@ move_issuing X f s t m g k (gives_up i by none n d lost e) = rw e (void_issuing 
   | inl firm ↦ let out = outside_parts i.set.bits t.present by lost in absurd (both_ways (has t.present by) out.1 (firm i n d none by out.0))
 ]))
 move_issuing X f s t m g k (second i none n d all needed e) =
-    rw e (push_issuing X f s t (fresh t.instances Rlk2 i.set i.id) g (rw e at k) refl refl refl
+    rw e (push_issuing X f s t (fresh t.instances Rlk2 i.set i.id 0) g (rw e at k) refl refl refl
     (g.owes Rlk2 needed none (condition_second f t Rlk2 refl ∙ done_here Rlk1 t.instances i n d)) (λ p h. none_outside i.set.bits t.present p all h))
 move_issuing X f s t m g k (other σ no_second none many needed e) =
-    rw e (push_issuing X f s t (fresh t.instances σ (least_present f t) 0) g (rw e at k) refl refl refl
+    rw e (push_issuing X f s t (fresh t.instances σ (least_present f t) 0 0) g (rw e at k) refl refl refl
     (g.owes σ needed none (condition_other f t σ no_second ∙ le-leb f.threshold (count t.present) many)) (λ p h. least_parties f t p h))
 
 -- where only some signatures may be issued, and no first round is given up or it may be issued anew, only those are issued

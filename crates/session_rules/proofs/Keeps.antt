@@ -157,19 +157,19 @@ pub move_kept : (f : Fixed) (s : State) (m : Move) → Kept f s → MoveIs f s m
 unfolding moved instances_after fresh least_present
 move_kept f s m k (gives_up i by none n d lost e) = rw e (give_up_kept f s i by k n d none)
 move_kept f s m k (second i none n d all needed e) = rw e
-    (issue_kept f s Rlk2 i.set i.id k none (k.sound i n).set (k.sound i n).parties
+    (issue_kept f s Rlk2 i.set i.id 0 k none (k.sound i n).set (k.sound i n).parties
     (λ p h. none_outside i.set.bits s.present p all h) (λ c its. cc)
     (λ _. record { first = i; issued = n; signature = d.signature; complete = d.complete; id = refl; set = refl }))
 move_kept f s m k (other σ no_second none many needed e) = rw e
-    (issue_kept f s σ (least_present f s) 0 k none (least_is f.threshold s.present).small (least_count f.threshold s.present many)
+    (issue_kept f s σ (least_present f s) 0 0 k none (least_is f.threshold s.present).small (least_count f.threshold s.present many)
     (λ p h. least_within f.threshold s.present p h) (λ c its. needed_evaluated f s.circuits σ c needed its)
     (λ its. absurd (no_second its)))
 
 move_later : (f : Fixed) (s : State) (m : Move) → Kept f s → MoveIs f s m → AreLater s.instances (instances_after s.instances m)
 unfolding instances_after after_void
 move_later f s m k (gives_up i by none n d lost e) = rw e (map_later _ s.instances (give_up_later f s i by k n d))
-move_later f s m k (second i none n d all needed e) = rw e (push_later s.instances (fresh s.instances Rlk2 i.set i.id))
-move_later f s m k (other σ no_second none many needed e) = rw e (push_later s.instances (fresh s.instances σ (least_present f s) 0))
+move_later f s m k (second i none n d all needed e) = rw e (push_later s.instances (fresh s.instances Rlk2 i.set i.id 0))
+move_later f s m k (other σ no_second none many needed e) = rw e (push_later s.instances (fresh s.instances σ (least_present f s) 0 0))
 
 pub move_next : (f : Fixed) (s : State) (m : Move) → Kept f s → next_move f s ≡ Some m → Next f s (moved s m)
 unfolding moved

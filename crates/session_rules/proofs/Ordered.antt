@@ -114,10 +114,10 @@ rounds_push is i last rounds a m second alive = elim (Contains-push_cases is i a
 ]
 
 -- a new instance by itself
-pub fresh_sound : (f : Fixed) (present : ℕ) (is : List Instance) (σ : Signature) (parties : PartySet) (round1 : ℕ) → parties.bits < 2 ^ 32 → count parties.bits ≡ f.threshold
-    → ((p : ℕ) → has parties.bits p ≡ true → has present p ≡ true) → IsSound f present (fresh is σ parties round1)
+pub fresh_sound : (f : Fixed) (present : ℕ) (is : List Instance) (σ : Signature) (parties : PartySet) (round1 group : ℕ) → parties.bits < 2 ^ 32 → count parties.bits ≡ f.threshold
+    → ((p : ℕ) → has parties.bits p ≡ true → has present p ≡ true) → IsSound f present (fresh is σ parties round1 group)
 unfolding fresh
-fresh_sound f present is σ parties round1 small many there = record {
+fresh_sound f present is σ parties round1 group small many there = record {
   set = small;
   parties = many;
   sent = omega arith;
@@ -127,27 +127,27 @@ fresh_sound f present is σ parties round1 small many there = record {
   awaited = λ e p h n. there p h;
 }
 
-pub fresh_decrypts : (circuits : List CircuitState) (is : List Instance) (σ : Signature) (parties : PartySet) (round1 : ℕ) → ((c : ℕ) → σ ≡ Dec c → circuit circuits c ≡ Evaluated) → Decrypts circuits (fresh is σ parties round1)
+pub fresh_decrypts : (circuits : List CircuitState) (is : List Instance) (σ : Signature) (parties : PartySet) (round1 group : ℕ) → ((c : ℕ) → σ ≡ Dec c → circuit circuits c ≡ Evaluated) → Decrypts circuits (fresh is σ parties round1 group)
 unfolding fresh
-fresh_decrypts circuits is σ parties round1 h = record { opened = λ c e o. h c e; complete = λ c e o. cc }
+fresh_decrypts circuits is σ parties round1 group h = record { opened = λ c e o. h c e; complete = λ c e o. cc }
 
 -- the state with a new one
-pub issue_kept : (f : Fixed) (s : State) (σ : Signature) (parties : PartySet) (round1 : ℕ) → Kept f s
+pub issue_kept : (f : Fixed) (s : State) (σ : Signature) (parties : PartySet) (round1 group : ℕ) → Kept f s
     → has_live σ s.instances ≡ false
     → parties.bits < 2 ^ 32 → count parties.bits ≡ f.threshold → ((p : ℕ) → has parties.bits p ≡ true → has s.present p ≡ true)
     → ((c : ℕ) → σ ≡ Dec c → circuit s.circuits c ≡ Evaluated)
-    → (σ ≡ Rlk2 → HasFirst s.instances (fresh s.instances σ parties round1))
-    → Kept f (record s { instances = with_fresh s.instances σ parties round1 })
+    → (σ ≡ Rlk2 → HasFirst s.instances (fresh s.instances σ parties round1 group))
+    → Kept f (record s { instances = with_fresh s.instances σ parties round1 group })
 unfolding fresh
-issue_kept f s σ parties round1 k none small many there decrypts first =
+issue_kept f s σ parties round1 group k none small many there decrypts first =
     let is = s.instances in
-    let i = fresh is σ parties round1 in
+    let i = fresh is σ parties round1 group in
     record {
       circuits = k.circuits;
       given = k.given;
       numbered = numbered_push is i refl k.numbered;
       one = one_push is i none k.one;
-      sound = each_push is i (λ a. IsSound f s.present a) k.sound (fresh_sound f s.present is σ parties round1 small many there);
-      decrypts = each_push is i (λ a. Decrypts s.circuits a) k.decrypts (fresh_decrypts s.circuits is σ parties round1 decrypts);
+      sound = each_push is i (λ a. IsSound f s.present a) k.sound (fresh_sound f s.present is σ parties round1 group small many there);
+      decrypts = each_push is i (λ a. Decrypts s.circuits a) k.decrypts (fresh_decrypts s.circuits is σ parties round1 group decrypts);
       rounds = rounds_push is i first k.rounds;
     }

@@ -58,7 +58,7 @@ beside_is s t b = cc_state t.present t.given t.circuits b.present b.given b.circ
 pub longer : (is : List Instance) (m : Move) → length (instances_after is m) ≤ length is + 1
 unfolding instances_after after_void
 longer is (GiveUp id by) = omega (arith, length-map is (given_up id by))
-longer is (Issue σ set round1) = omega (arith, length-append is (fresh is σ set round1 ∷ []))
+longer is (Issue σ set round1) = omega (arith, length-append is (fresh is σ set round1 0 ∷ []))
 
 grown_then : (f : Fixed) (n : ℕ) → ((t : State) → length (issued_in n f t).instances ≤ length t.instances + n) → (s : State) → (o : Option Move) → length (elim o as (λ x. State) [
   | None ↦ s

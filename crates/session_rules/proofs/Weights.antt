@@ -259,8 +259,8 @@ void_lowers f s i by k m d =
 lowers : (f : Fixed) (s : State) (m : Move) → Kept f s → MoveIs f s m → weight f s.circuits (moved s m).instances + 1 ≤ weight f s.circuits s.instances
 unfolding moved instances_after fresh
 lowers f s m k (gives_up i by none n d lost e) = rw e (void_lowers f s i by k n d)
-lowers f s m k (second i none n d all needed e) = rw e (push_lowers f s.circuits s.instances (fresh s.instances Rlk2 i.set i.id) none refl (needed_in f s.circuits Rlk2 needed))
-lowers f s m k (other σ no_second none many needed e) = rw e (push_lowers f s.circuits s.instances (fresh s.instances σ (least_present f s) 0) none refl (needed_in f s.circuits σ needed))
+lowers f s m k (second i none n d all needed e) = rw e (push_lowers f s.circuits s.instances (fresh s.instances Rlk2 i.set i.id 0) none refl (needed_in f s.circuits Rlk2 needed))
+lowers f s m k (other σ no_second none many needed e) = rw e (push_lowers f s.circuits s.instances (fresh s.instances σ (least_present f s) 0 0) none refl (needed_in f s.circuits σ needed))
 
 -- ---- issuing ends
 

@@ -108,6 +108,7 @@ pub record IsSameLater (before now : Instance) : Type 0 where
   pub set : now.set ≡ before.set
   pub attempt : now.attempt ≡ before.attempt
   pub round1 : now.round1 ≡ before.round1
+  pub group : now.group ≡ before.group
   pub sent : (p : ℕ) → has before.sent.bits p ≡ true → has now.sent.bits p ≡ true
   pub closed : before.stage ≢ Opened → now.sent ≡ before.sent
   pub opened : now.stage ≡ Opened → before.stage ≡ Opened

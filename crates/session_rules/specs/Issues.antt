@@ -88,11 +88,11 @@ rule_2 f s = option_and_then (issued_as f s) (next_signature f s)
 unfoldable pub next_move : Fixed → State → Option Move
 next_move f s = option_or (rule_1 s) (rule_2 f s)
 
--- ---- what a step does
+-- ---- what a step does; all instances are issued for the one group, at place 0
 
 unfoldable pub instances_after : List Instance → Move → List Instance
 instances_after is (GiveUp id by) = after_void id by is
-instances_after is (Issue σ set round1) = with_fresh is σ set round1
+instances_after is (Issue σ set round1) = with_fresh is σ set round1 0
 
 unfoldable pub moved : State → Move → State
 moved s m = record s { instances = instances_after s.instances m }

@@ -53,7 +53,7 @@ fn instances_after(
             set,
             round1,
         } => {
-            let next = fresh(instances.as_slice(), signature, set, round1);
+            let next = fresh(instances.as_slice(), signature, set, round1, 0);
             let mut instances = instances;
             instances.push(next)?;
             Ok(instances)

@@ -51,7 +51,7 @@ events = refl
 -- ---- instances, by how far they have come; the digest stands for itself
 
 abbrev row : Stage → Instance
-row stage = record { id = 12; signature = Dec 0; set = record { bits = 13 }; attempt = 2; sent = record { bits = 4 }; stage = stage; round1 = 0 }
+row stage = record { id = 12; signature = Dec 0; set = record { bits = 13 }; attempt = 2; sent = record { bits = 4 }; stage = stage; round1 = 0; group = 0 }
 
 pub instances : (instance_line (row Opened) (codes "d") ≡ codes "instance 12 dec0 1,3,4 attempt 2 open 1,4\n") × (instance_line (row Complete) (codes "d") ≡ codes "instance 12 dec0 1,3,4 attempt 2 complete d\n")
     × (instance_line (row (Void 3)) (codes "d") ≡ codes "instance 12 dec0 1,3,4 attempt 2 void by 3\n")

@@ -210,6 +210,7 @@ fn tells(
         sent: PartySet { bits: sent },
         stage,
         round1: 0,
+        group: 0,
     };
     let mut text = Vec::from_slice(alloc, b"output c 0\n")?;
     instance_line(&mut text, &instance, DIGEST)?;
