@@ -11,7 +11,7 @@ struct Table {
     quotients: Vec<u64>,
 }
 
-struct Tables {
+pub struct Tables {
     modulus: u64,
     onward: Table,
     back: Table,
@@ -35,7 +35,7 @@ fn power(mut base: u64, mut exponent: u64, q: u64) -> u64 {
     made
 }
 
-fn quotient(w: u64, q: u64) -> u64 {
+pub fn quotient(w: u64, q: u64) -> u64 {
     (((w as u128) << 64) / q as u128) as u64
 }
 
@@ -51,7 +51,7 @@ fn table(q: u64, n: usize, base: u64) -> Table {
     Table { roots, quotients }
 }
 
-fn tables(q: u64, n: usize, psi: u64) -> Tables {
+pub fn tables(q: u64, n: usize, psi: u64) -> Tables {
     assert_eq!(power(psi, n as u64, q), q - 1);
     let inverse = q - power(psi, n as u64 - 1, q);
     let scale = power(q / 2 + 1, n.trailing_zeros() as u64, q);
@@ -66,13 +66,13 @@ fn tables(q: u64, n: usize, psi: u64) -> Tables {
 }
 
 #[inline]
-fn scaled(x: u64, w: u64, quotient: u64, q: u64) -> u64 {
+pub fn scaled(x: u64, w: u64, quotient: u64, q: u64) -> u64 {
     let times = ((quotient as u128 * x as u128) >> 64) as u64;
     w.wrapping_mul(x).wrapping_sub(times.wrapping_mul(q))
 }
 
 #[inline]
-fn lowered(x: u64, bound: u64) -> u64 {
+pub fn lowered(x: u64, bound: u64) -> u64 {
     if x >= bound { x - bound } else { x }
 }
 
@@ -141,7 +141,7 @@ fn multiply_into(t: &Tables, a: &mut [u64], b: &[u64]) {
 
 /// The product of two polynomials, each copied.
 #[inline(never)]
-fn polynomial(t: &Tables, f: &[u64], g: &[u64]) -> Vec<u64> {
+pub fn polynomial(t: &Tables, f: &[u64], g: &[u64]) -> Vec<u64> {
     let mut values = f.to_vec();
     let mut others = g.to_vec();
     forward(t, &mut values);
