@@ -1,4 +1,4 @@
-ghost use Rattle.std.specs.Prelude.{◌≡◌, ℕ, ◌<◌, ◌==◌, List, [], ◌∷◌, ◌++◌, length, OnOk, OnErr, slice_index_or, slice_set};
+ghost use Rattle.std.specs.Prelude.{◌≡◌, ℕ, ◌<◌, ◌==◌, List, [], ◌∷◌, ◌++◌, length, OnOk, OnErr, slice_get, slice_index_or, slice_set, option_copied};
 
 use std::alloc::{AllocError, Global};
 use std::marker::Model;
@@ -54,6 +54,20 @@ impl Polys {
         }
     }
 
+    /// Takes over a list of polynomials.
+    pub fn from_vec(items: Vec<Poly>) -> Polys
+        ensures { result ≡ items.items }
+    {
+        Polys { items }
+    }
+
+    /// Gives the polynomials back.
+    pub fn into_vec(self) -> Vec<Poly>
+        ensures { result.items ≡ self }
+    {
+        self.items
+    }
+
     /// Puts a polynomial behind the others; where memory is wanting it is dropped.
     pub fn push(&mut self, item: Poly) -> Result<(), AllocError>
         ensures ok { OnOk result (self.new ≡ self.old ++ item ∷ []) }
@@ -83,5 +97,19 @@ impl Polys {
         ensures { result.now ≡ slice_index_or self.now place [] }
     {
         &self.items[place]
+    }
+
+    /// The polynomial at a place, where there is one.
+    pub fn get(&self, place: usize) -> Option<&Poly>
+        ensures { option_copied result ≡ slice_get self.now place }
+    {
+        self.items.get(place)
+    }
+
+    /// All polynomials.
+    pub fn as_slice(&self) -> &[Poly]
+        ensures { result.now ≡ self.now }
+    {
+        self.items.as_slice()
     }
 }
