@@ -4,7 +4,7 @@ use Rattle.std.specs.List.{range_with_len}
 use Rattle.std.proofs.lemmas.List.{get_or-map, length-map}
 use Rattle.std.proofs.lemmas.List.FromFn.{length-map-range_with_len, get_or-map-range_with_len, fill_by_all}
 use Rattle.std.proofs.lemmas.List.Elements.{All-from_get_or}
-use Rattle.ring_spec.specs.Ring.{IsPoly, signed, residue, residues, ring_sum, ring_difference, ring_negative, ring_multiple, ring_product}
+use Rattle.ring_spec.specs.Ring.{IsPoly, signed, residue, residues, ring_sum, ring_difference, ring_negative, ring_multiple, ring_product, ring_turned}
 
 pub residue-below : (q : ℕ) (z : ℤ) → 0 < q → residue q z < q
 unfolding residue
@@ -41,6 +41,10 @@ multiple-fits q n k f h e positive = residues-fit q n _ h e positive
 pub product-fits : (q n : ℕ) (f g h : List ℕ) → h ≡ ring_product q n f g → 0 < q → IsPoly q n h
 unfolding ring_product
 product-fits q n f g h e positive = residues-fit q n _ h e positive
+
+pub turned-fits : (q n g : ℕ) (f h : List ℕ) → h ≡ ring_turned q n g f → 0 < q → IsPoly q n h
+unfolding ring_turned
+turned-fits q n g f h e positive = residues-fit q n _ h e positive
 
 -- for the tactics
 pub ruleset fits = (residues-fit, sum-fits, difference-fits, negative-fits, multiple-fits, product-fits)

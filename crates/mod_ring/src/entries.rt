@@ -28,7 +28,7 @@ fn difference_of(q: u64, x: u64, y: u64) -> u64
 
 /// -x modulo q.
 #[tactic(auto, unfolding(ring_spec::specs::Ring::residue))]
-fn negative_of(q: u64, x: u64) -> u64
+pub(crate) fn negative_of(q: u64, x: u64) -> u64
     requires residue { x < q }
     ensures { result ≡ residue q (neg_ℤ (pos x)) }
 {

@@ -4,7 +4,7 @@
 //! A `Poly` has n coefficients, each a residue from 0 to q - 1, lowest degree first, and contracts
 //! see it as that list. Each operation gives the value that the ring's definition gives (Fan and
 //! Vercauteren 2012, section 2), and what it gives back is a polynomial of the ring again. Products go by
-//! the transforms of `ring_ntt`, whose tables a `Ring` holds. Every call has the condition that the
+//! the transforms of `ring_ntt`, whose tables a `Ring` holds. `phi` puts X^g for X. Every call has the condition that the
 //! polynomials which it takes fit the ring. Nothing is said of time.
 #![tactic(auto)]
 
@@ -14,6 +14,7 @@ mod poly;
 mod ring;
 mod signs;
 mod tabled;
+mod turns;
 
 pub use mod_inverse::inverse;
 pub use pairs::{Ciphertext, PublicKey};
@@ -22,3 +23,4 @@ pub use ring::{
     Ring, add_into, add_into_row, mul, neg_into, of_residues, of_signed, scale_into, sub_into, zero,
 };
 pub use signs::{centre, residue_of};
+pub use turns::phi;
