@@ -6,6 +6,7 @@ use crate::poly::{Poly, Polys};
 use crate::signs::residue_of;
 use crate::tabled::Tabled;
 use param_set::Params;
+use ring_ntt::Tables;
 use std::alloc::{AllocError, Global};
 
 /// The ring of some parameters, in which polynomials have n coefficients below q, with the tables of its
@@ -29,6 +30,15 @@ impl Ring {
         ensures { result.now ≡ self.now.params }
     {
         self.params.params()
+    }
+
+    /// The tables of its transforms.
+    pub(crate) fn tables(&self) -> &Tables
+        ensures modulus { result.now.modulus ≡ self.now.params.q }
+        ensures degree { result.now.length ≡ self.now.params.n }
+        ensures root { result.now.root ≡ self.now.params.psi }
+    {
+        self.params.tables()
     }
 }
 

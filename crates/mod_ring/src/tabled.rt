@@ -13,6 +13,7 @@ pub(crate) struct Tabled {
     tables: Tables,
     ghost modulus: { tables.modulus ≡ params.q },
     ghost length: { tables.length ≡ params.n },
+    ghost root: { tables.root ≡ params.psi },
 }
 
 impl Model for Tabled {
@@ -42,6 +43,14 @@ impl Tabled {
         ensures { result.now ≡ self.now }
     {
         &self.params
+    }
+
+    pub(crate) fn tables(&self) -> &Tables
+        ensures modulus { result.now.modulus ≡ self.now.q }
+        ensures degree { result.now.length ≡ self.now.n }
+        ensures root { result.now.root ≡ self.now.psi }
+    {
+        &self.tables
     }
 
     /// The product of f and g: both go to their values, which are multiplied, and the product comes back.
