@@ -1,4 +1,5 @@
 ghost use Rattle.std.specs.Prelude.{◌≡◌, ◌*◌, ◌/◌, IfOk, OnOk, OnErr};
+ghost use Rattle.mod_ring.specs.Fits.{Fits};
 ghost use Rattle.ring_spec.specs.Pairs.{KeyFits, CipherFits};
 ghost use Rattle.ring_spec.specs.Ring.{IsPoly, ring_multiple};
 ghost use Rattle.bfv_spec.specs.Scheme.{encryption, phase as phase_of};
@@ -15,7 +16,7 @@ use word_tape::Tape;
 pub(crate) fn scaled(alloc: Global, ring: &Ring, m: &Plain) -> Result<Poly, AllocError>
     requires { IsPoly ring.now.params.t ring.now.params.n m.now }
     ensures value { IfOk result (λ f. f ≡ ring_multiple ring.now.params.q ring.now.params.n (ring.now.params.q / ring.now.params.t) m.now) }
-    ensures fits { IfOk result (λ f. IsPoly ring.now.params.q ring.now.params.n f) }
+    ensures fits { IfOk result (λ f. Fits ring.now f) }
 {
     let coeffs = Vec::from_slice(alloc, m.coeffs())?;
     let mut f = of_residues(ring.params(), coeffs);
@@ -25,9 +26,9 @@ pub(crate) fn scaled(alloc: Global, ring: &Ring, m: &Plain) -> Result<Poly, Allo
 
 /// A copy of a polynomial.
 pub fn copied(alloc: Global, ring: &Ring, f: &Poly) -> Result<Poly, AllocError>
-    requires { IsPoly ring.now.params.q ring.now.params.n f.now }
+    requires { Fits ring.now f.now }
     ensures value { IfOk result (λ g. g ≡ f.now) }
-    ensures fits { IfOk result (λ g. IsPoly ring.now.params.q ring.now.params.n g) }
+    ensures fits { IfOk result (λ g. Fits ring.now g) }
 {
     let coeffs = Vec::from_slice(alloc, f.coeffs())?;
     Ok(of_residues(ring.params(), coeffs))
@@ -47,9 +48,9 @@ fn encrypt_with(
 ) -> Result<Ciphertext, AllocError>
     requires key { KeyFits ring.now.params.q ring.now.params.n key.now }
     requires plain { IsPoly ring.now.params.t ring.now.params.n m.now }
-    requires u { IsPoly ring.now.params.q ring.now.params.n u.now }
-    requires e0 { IsPoly ring.now.params.q ring.now.params.n e0.now }
-    requires e1 { IsPoly ring.now.params.q ring.now.params.n e1.now }
+    requires u { Fits ring.now u.now }
+    requires e0 { Fits ring.now e0.now }
+    requires e1 { Fits ring.now e1.now }
     ensures value { IfOk result (λ c. c ≡ encryption ring.now.params.q ring.now.params.n ring.now.params.t key.now m.now u.now e0.now e1.now) }
     ensures fits { IfOk result (λ c. CipherFits ring.now.params.q ring.now.params.n c) }
 {
@@ -94,9 +95,9 @@ pub fn encrypt(
 #[tactic(auto, unfolding(bfv_spec::specs::Scheme::phase))]
 pub fn phase(alloc: Global, ring: &Ring, c: &Ciphertext, s: &Poly) -> Result<Poly, AllocError>
     requires cipher { CipherFits ring.now.params.q ring.now.params.n c.now }
-    requires secret { IsPoly ring.now.params.q ring.now.params.n s.now }
+    requires secret { Fits ring.now s.now }
     ensures value { IfOk result (λ f. f ≡ phase_of ring.now.params.q ring.now.params.n s.now c.now) }
-    ensures fits { IfOk result (λ f. IsPoly ring.now.params.q ring.now.params.n f) }
+    ensures fits { IfOk result (λ f. Fits ring.now f) }
 {
     let mut f = copied(alloc, ring, &c.c0)?;
     let product = mul(alloc, ring, &c.c1, s)?;

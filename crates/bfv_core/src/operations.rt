@@ -1,4 +1,5 @@
 ghost use Rattle.std.specs.Prelude.{◌≡◌, IfOk};
+ghost use Rattle.mod_ring.specs.Fits.{Fits};
 ghost use Rattle.ring_spec.specs.Pairs.{CipherFits};
 ghost use Rattle.ring_spec.specs.Ring.{IsPoly};
 ghost use Rattle.bfv_spec.specs.Scheme.{cipher_sum, cipher_difference, cipher_negative, cipher_multiple, trivial as trivial_of};
@@ -12,7 +13,7 @@ use std::alloc::{AllocError, Global};
 fn lifted(alloc: Global, ring: &Ring, m: &Plain) -> Result<Poly, AllocError>
     requires { IsPoly ring.now.params.t ring.now.params.n m.now }
     ensures value { IfOk result (λ f. f ≡ m.now) }
-    ensures fits { IfOk result (λ f. IsPoly ring.now.params.q ring.now.params.n f) }
+    ensures fits { IfOk result (λ f. Fits ring.now f) }
 {
     let coeffs = Vec::from_slice(alloc, m.coeffs())?;
     Ok(of_residues(ring.params(), coeffs))

@@ -1,5 +1,5 @@
 ghost use Rattle.std.specs.Prelude.{◌≡◌, ℕ, [], ◌∷◌, All, IfOk};
-ghost use Rattle.ring_spec.specs.Ring.{IsPoly};
+ghost use Rattle.mod_ring.specs.Fits.{Fits};
 ghost use Rattle.dec_spec.specs.Decrypting.{flood as flood_of, honest_dec};
 
 use mod_ring::{Poly, Polys, Ring, add_into, mul};
@@ -11,7 +11,7 @@ use word_tape::Tape;
 /// The flood of a party's share, from the party's stream of the instance.
 fn flood(alloc: Global, ring: &Ring, seed: [u8; 32], id: u32) -> Result<Poly, AllocError>
     ensures value { IfOk result (λ f. f ≡ flood_of ring.now.params.q ring.now.params.n ring.now.params.flood seed id) }
-    ensures fits { IfOk result (λ f. IsPoly ring.now.params.q ring.now.params.n f) }
+    ensures fits { IfOk result (λ f. Fits ring.now f) }
 {
     wide(
         alloc,
@@ -31,10 +31,10 @@ fn dec_row(
     c1: &Poly,
     part: &Poly,
 ) -> Result<Poly, AllocError>
-    requires c1 { IsPoly ring.now.params.q ring.now.params.n c1.now }
-    requires part { IsPoly ring.now.params.q ring.now.params.n part.now }
+    requires c1 { Fits ring.now c1.now }
+    requires part { Fits ring.now part.now }
     ensures value { IfOk result (λ row. row ≡ honest_dec ring.now.params.q ring.now.params.n ring.now.params.flood seed id c1.now part.now) }
-    ensures fits { IfOk result (λ row. IsPoly ring.now.params.q ring.now.params.n row) }
+    ensures fits { IfOk result (λ row. Fits ring.now row) }
 {
     let mut row = mul(alloc, ring, c1, part)?;
     let noise = flood(alloc, ring, seed, id)?;
@@ -55,10 +55,10 @@ pub fn dec_share(
     c1: &Poly,
     part: &Poly,
 ) -> Result<Polys, AllocError>
-    requires c1 { IsPoly ring.now.params.q ring.now.params.n c1.now }
-    requires part { IsPoly ring.now.params.q ring.now.params.n part.now }
+    requires c1 { Fits ring.now c1.now }
+    requires part { Fits ring.now part.now }
     ensures value { IfOk result (λ rows. rows ≡ honest_dec ring.now.params.q ring.now.params.n ring.now.params.flood seed id c1.now part.now ∷ []) }
-    ensures fits { IfOk result (λ rows. All (IsPoly ring.now.params.q ring.now.params.n) rows) }
+    ensures fits { IfOk result (λ rows. All (Fits ring.now) rows) }
 {
     let mut rows = Polys::new(alloc);
     rows.push(dec_row(alloc, ring, seed, id, c1, part)?)?;

@@ -1,5 +1,5 @@
 ghost use Rattle.std.specs.Prelude.{◌≡◌, ◌≤◌, ◌<◌, ◌+◌, ◌-◌, ◌^◌, ℕ, [], ◌∷◌, ◌++◌, length, All, Some, IsTrue, OnOk, slice_index_or, slice_set};
-ghost use Rattle.ring_spec.specs.Ring.{IsPoly};
+ghost use Rattle.mod_ring.specs.Fits.{Fits};
 ghost use Rattle.proto_names.specs.Instances.{with_fresh, after_share, after_void, after_lost};
 ghost use Rattle.instance_table.specs.Tables.{role, no_sums, rows_sum, after_rows, awaits, stands, count_of};
 ghost use Rattle.instance_table.specs.Spare.{spare};
@@ -81,7 +81,7 @@ impl Table {
         requires first { 1 ≤ id }
         requires last { id ≤ length self.old.sums.items }
         requires number { length rows.now ≡ length (slice_index_or self.old.sums.items (id - 1) []) }
-        requires fits { All (IsPoly ring.now.params.q ring.now.params.n) rows.now }
+        requires fits { All (Fits ring.now) rows.now }
         ensures sums { self.new.sums.items ≡ after_rows ring.now.params.q ring.now.params.n id rows.now self.old.sums.items }
         ensures instances { self.new.instances.items ≡ self.old.instances.items }
         ensures briefs { self.new.briefs.items ≡ self.old.briefs.items }
@@ -115,7 +115,7 @@ impl Table {
         requires ring { ring.now.params ≡ self.old.params }
         requires awaited { IsTrue (awaits self.old.instances.items share.now.id share.now.party) }
         requires number { length share.now.rows ≡ length (slice_index_or self.old.sums.items (share.now.id - 1) []) }
-        requires fits { All (IsPoly ring.now.params.q ring.now.params.n) share.now.rows }
+        requires fits { All (Fits ring.now) share.now.rows }
         ensures count { Some result ≡ count_of self.old.instances.items share.now.id share.now.party }
         ensures instances { self.new.instances.items ≡ after_share share.now.id share.now.party self.old.instances.items }
         ensures sums { self.new.sums.items ≡ after_rows ring.now.params.q ring.now.params.n share.now.id share.now.rows self.old.sums.items }

@@ -1,5 +1,5 @@
 ghost use Rattle.std.specs.Prelude.{◌≡◌, ℕ, ◌+◌, ◌^◌, IfOk, All};
-ghost use Rattle.ring_spec.specs.Ring.{IsPoly};
+ghost use Rattle.mod_ring.specs.Fits.{Fits};
 ghost use Rattle.bfv_spec.specs.Shares.{common_poly, common_polys};
 
 use mod_ring::{Poly, Polys, Ring};
@@ -16,7 +16,7 @@ pub(crate) fn first_common(
     id: u32,
 ) -> Result<Poly, AllocError>
     ensures value { IfOk result (λ a. a ≡ common_poly ring.now.params.q ring.now.params.n public id 0) }
-    ensures fits { IfOk result (λ a. IsPoly ring.now.params.q ring.now.params.n a) }
+    ensures fits { IfOk result (λ a. Fits ring.now a) }
 {
     uniform(alloc, ring, &mut Tape::new(public, instance_stream(id)))
 }
@@ -31,7 +31,7 @@ pub fn common(
     rows: u32,
 ) -> Result<Polys, AllocError>
     ensures value { IfOk result (λ polys. polys ≡ common_polys ring.now.params.q ring.now.params.n public id rows) }
-    ensures fits { IfOk result (λ polys. All (IsPoly ring.now.params.q ring.now.params.n) polys) }
+    ensures fits { IfOk result (λ polys. All (Fits ring.now) polys) }
 {
     let mut tape = Tape::new(public, instance_stream(id));
     let mut polys = Polys::new(alloc);

@@ -1,6 +1,6 @@
 ghost use Rattle.std.specs.Prelude.{◌≡◌, ℕ, [], ◌∷◌, length, slice_index_or, All, IfOk};
+ghost use Rattle.mod_ring.specs.Fits.{Fits};
 ghost use Rattle.ring_spec.specs.Pairs.{KeyFits};
-ghost use Rattle.ring_spec.specs.Ring.{IsPoly};
 ghost use Rattle.draw_spec.specs.Streams.{instance_stream as stream_of_instance};
 ghost use Rattle.bfv_spec.specs.Drawn.{small_poly};
 ghost use Rattle.bfv_spec.specs.Shares.{common_poly, honest_pk, pk_from};
@@ -17,7 +17,7 @@ use word_tape::Tape;
 /// The noise of a party's share, from the party's stream of the instance.
 fn first_noise(alloc: Global, ring: &Ring, seed: [u8; 32], id: u32) -> Result<Poly, AllocError>
     ensures value { IfOk result (λ e. e ≡ small_poly ring.now.params.q ring.now.params.n ring.now.params.err seed (stream_of_instance id) 0) }
-    ensures fits { IfOk result (λ e. IsPoly ring.now.params.q ring.now.params.n e) }
+    ensures fits { IfOk result (λ e. Fits ring.now e) }
 {
     small(
         alloc,
@@ -37,9 +37,9 @@ fn pk_row(
     id: u32,
     part: &Poly,
 ) -> Result<Poly, AllocError>
-    requires { IsPoly ring.now.params.q ring.now.params.n part.now }
+    requires { Fits ring.now part.now }
     ensures value { IfOk result (λ row. row ≡ honest_pk ring.now.params.q ring.now.params.n ring.now.params.err public seed id part.now) }
-    ensures fits { IfOk result (λ row. IsPoly ring.now.params.q ring.now.params.n row) }
+    ensures fits { IfOk result (λ row. Fits ring.now row) }
 {
     let common = first_common(alloc, ring, public, id)?;
     let mut row = mul(alloc, ring, &common, part)?;
@@ -59,9 +59,9 @@ pub fn pk_share(
     id: u32,
     part: &Poly,
 ) -> Result<Polys, AllocError>
-    requires { IsPoly ring.now.params.q ring.now.params.n part.now }
+    requires { Fits ring.now part.now }
     ensures value { IfOk result (λ rows. rows ≡ honest_pk ring.now.params.q ring.now.params.n ring.now.params.err public seed id part.now ∷ []) }
-    ensures fits { IfOk result (λ rows. All (IsPoly ring.now.params.q ring.now.params.n) rows) }
+    ensures fits { IfOk result (λ rows. All (Fits ring.now) rows) }
 {
     let mut rows = Polys::new(alloc);
     rows.push(pk_row(alloc, ring, public, seed, id, part)?)?;
@@ -81,7 +81,7 @@ pub fn pk_key(
     sums: &Polys,
 ) -> Result<PublicKey, AllocError>
     requires one_row { length sums.now ≡ 1 }
-    requires fit { All (IsPoly ring.now.params.q ring.now.params.n) sums.now }
+    requires fit { All (Fits ring.now) sums.now }
     ensures value { IfOk result (λ key. key ≡ pk_from ring.now.params.q ring.now.params.n public id (slice_index_or sums.now 0 [])) }
     ensures fits { IfOk result (λ key. KeyFits ring.now.params.q ring.now.params.n key) }
     ensures together { IfOk result (λ key. IsKeyOfAll ring.now.params.q ring.now.params.n (common_poly ring.now.params.q ring.now.params.n public id 0) (slice_index_or sums.now 0 []) key) }

@@ -6,7 +6,7 @@ use Rattle.ring_spec.specs.Ring.{IsPoly, ring_sum, ring_product}
 use Rattle.param_set.specs.declared.params.Params.{Params}
 use Rattle.ring_ntt.specs.Transform.{inverse_transform}
 use Rattle.ring_ntt.proofs.Interpolation.{HasRoot, inverse_transform-poly}
-use Rattle.mod_ring.specs.Evaluated.{Evaluated, evaluated, Fits}
+use Rattle.mod_ring.specs.Evaluated.{Evaluated, evaluated, EvaluatedFits}
 use Rattle.mod_ring.specs.WideSums.{remainders, raised_sums}
 use Rattle.mod_ring.proofs.Fits.{sum-fits, product-fits}
 use Rattle.mod_ring.proofs.WideSums.{raised_stands, remainders_poly, zeros_stand}
@@ -47,7 +47,7 @@ same_poly p m r d m' r' d' v v' i i' e =
     ∙ ap (λ (x : ℕ). inverse_transform m' r' x v) (same_levels d d' p.n i.degree i'.degree)
     ∙ ap (inverse_transform m' r' d') e
 
-pub is_of : (p : Params) (m r d : ℕ) (v : List ℕ) (f : Evaluated) → evaluated m r d v ≡ f → Fits p f → IsOf p m r d
+pub is_of : (p : Params) (m r d : ℕ) (v : List ℕ) (f : Evaluated) → evaluated m r d v ≡ f → EvaluatedFits p f → IsOf p m r d
 is_of p m r d v f e h = record {
   modulus = ap (λ (x : Evaluated). x.modulus) e ∙ h.modulus;
   degree = ap (λ (x : Evaluated). x.degree) e ∙ h.degree;
@@ -55,12 +55,12 @@ is_of p m r d v f e h = record {
 }
 
 -- the way back gives the polynomial that values stand for
-pub taken_back : (p : Params) (m r d m' r' d' : ℕ) (v v' now : List ℕ) (f : Evaluated) → evaluated m r d v ≡ f → Fits p f → IsOf p m' r' d' → v' ≡ v → now ≡ inverse_transform m' r' d' v' → now ≡ f.poly
+pub taken_back : (p : Params) (m r d m' r' d' : ℕ) (v v' now : List ℕ) (f : Evaluated) → evaluated m r d v ≡ f → EvaluatedFits p f → IsOf p m' r' d' → v' ≡ v → now ≡ inverse_transform m' r' d' v' → now ≡ f.poly
 taken_back p m r d m' r' d' v v' now f e h i same is =
     is ∙ same_poly p m' r' d' m r d v' v i (is_of p m r d v f e h) same ∙ ap (λ (x : Evaluated). x.poly) e
 
 -- values whose polynomial is known
-pub fits_as : (p : Params) (m r d : ℕ) (v g : List ℕ) → IsOf p m r d → inverse_transform m r d v ≡ g → IsPoly p.q p.n g → Fits p (evaluated m r d v)
+pub fits_as : (p : Params) (m r d : ℕ) (v g : List ℕ) → IsOf p m r d → inverse_transform m r d v ≡ g → IsPoly p.q p.n g → EvaluatedFits p (evaluated m r d v)
 fits_as p m r d v g i e h = record {
   modulus = i.modulus;
   degree = i.degree;
@@ -72,13 +72,13 @@ fits_as p m r d v g i e h = record {
 pub none_stands : (p : Params) (m r d : ℕ) (sums : List ℕ) → IsOf p m r d → sums ≡ replicate p.n 0 → inverse_transform m r d (remainders m sums) ≡ replicate p.n 0
 none_stands p m r d sums i e = ap (λ (x : List ℕ). inverse_transform m r d (remainders m x)) e ∙ zeros_stand m d r p.n i.degree
 
-pub none_fits : (p : Params) (m r d : ℕ) (sums : List ℕ) → IsOf p m r d → sums ≡ replicate p.n 0 → Fits p (evaluated m r d (remainders m sums))
+pub none_fits : (p : Params) (m r d : ℕ) (sums : List ℕ) → IsOf p m r d → sums ≡ replicate p.n 0 → EvaluatedFits p (evaluated m r d (remainders m sums))
 none_fits p m r d sums i e =
     fits_as p m r d (remainders m sums) (inverse_transform p.q r d (remainders m sums)) i (ap (λ (x : ℕ). inverse_transform x r d (remainders m sums)) i.modulus)
     (subst (λ (x : ℕ). IsPoly p.q x (inverse_transform p.q r d (remainders m sums))) i.degree (inverse_transform-poly p.q d r (remainders m sums) (omega (arith, p.modulus.0))))
 
 -- the remainders of a sum are values of the ring
-pub remainders_are_values : (p : Params) (m r d m' n' : ℕ) (sums v : List ℕ) (f : Evaluated) → evaluated m r d (remainders m sums) ≡ f → Fits p f → length sums ≡ 2 ^ d → m' ≡ p.q → n' ≡ p.n → v ≡ remainders m sums → IsPoly m' n' v
+pub remainders_are_values : (p : Params) (m r d m' n' : ℕ) (sums v : List ℕ) (f : Evaluated) → evaluated m r d (remainders m sums) ≡ f → EvaluatedFits p f → length sums ≡ 2 ^ d → m' ≡ p.q → n' ≡ p.n → v ≡ remainders m sums → IsPoly m' n' v
 remainders_are_values p m r d m' n' sums v f e h len em en is =
     let i = is_of p m r d (remainders m sums) f e h in
     let same : v ≡ remainders m' sums = is ∙ ap (λ (x : ℕ). remainders x sums) (i.modulus ∙ sym em) in
@@ -86,7 +86,7 @@ remainders_are_values p m r d m' n' sums v f e h len em en is =
 
 -- the product of two that fit; the values are those that a call of the tables gives
 pub product_stands : (p : Params) (m r d m₂ r₂ d₂ m' r' d' n' : ℕ) (now v v₁ v₂ a b : List ℕ) (f g : Evaluated) →
-    evaluated m r d v₁ ≡ f → Fits p f → evaluated m₂ r₂ d₂ v₂ ≡ g → Fits p g → IsOf p m' r' d' → n' ≡ p.n → a ≡ v₁ → b ≡ v₂ → now ≡ v →
+    evaluated m r d v₁ ≡ f → EvaluatedFits p f → evaluated m₂ r₂ d₂ v₂ ≡ g → EvaluatedFits p g → IsOf p m' r' d' → n' ≡ p.n → a ≡ v₁ → b ≡ v₂ → now ≡ v →
     inverse_transform m' r' d' v ≡ ring_product m' n' (inverse_transform m' r' d' a) (inverse_transform m' r' d' b) →
     inverse_transform m r d now ≡ ring_product p.q p.n f.poly g.poly
 product_stands p m r d m₂ r₂ d₂ m' r' d' n' now v v₁ v₂ a b f g ef hf eg hg i' len ea eb en is =
@@ -96,13 +96,13 @@ product_stands p m r d m₂ r₂ d₂ m' r' d' n' now v v₁ v₂ a b f g ef hf 
     ∙ ap (λ (x : List ℕ). ring_product p.q p.n x (inverse_transform m' r' d' b)) (same_poly p m' r' d' m r d a v₁ i' (is_of p m r d v₁ f ef hf) ea ∙ ap (λ (x : Evaluated). x.poly) ef)
     ∙ ap (λ (x : List ℕ). ring_product p.q p.n f.poly x) (same_poly p m' r' d' m₂ r₂ d₂ b v₂ i' (is_of p m₂ r₂ d₂ v₂ g eg hg) eb ∙ ap (λ (x : Evaluated). x.poly) eg)
 
-pub product_fits : (p : Params) (m r d : ℕ) (v now : List ℕ) (f g : Evaluated) → evaluated m r d v ≡ f → Fits p f → inverse_transform m r d now ≡ ring_product p.q p.n f.poly g.poly → Fits p (evaluated m r d now)
+pub product_fits : (p : Params) (m r d : ℕ) (v now : List ℕ) (f g : Evaluated) → evaluated m r d v ≡ f → EvaluatedFits p f → inverse_transform m r d now ≡ ring_product p.q p.n f.poly g.poly → EvaluatedFits p (evaluated m r d now)
 product_fits p m r d v now f g e h is =
     fits_as p m r d now (ring_product p.q p.n f.poly g.poly) (is_of p m r d v f e h) is (product-fits p.q p.n f.poly g.poly _ refl (omega (arith, p.modulus.0)))
 
 -- a sum to which the product of two that fit is added
 pub sum_stands : (p : Params) (m r d m₁ r₁ d₁ m₂ r₂ d₂ : ℕ) (now sums v₁ v₂ : List ℕ) (s f g : Evaluated) →
-    evaluated m r d (remainders m sums) ≡ s → Fits p s → evaluated m₁ r₁ d₁ v₁ ≡ f → Fits p f → evaluated m₂ r₂ d₂ v₂ ≡ g → Fits p g →
+    evaluated m r d (remainders m sums) ≡ s → EvaluatedFits p s → evaluated m₁ r₁ d₁ v₁ ≡ f → EvaluatedFits p f → evaluated m₂ r₂ d₂ v₂ ≡ g → EvaluatedFits p g →
     length sums ≡ 2 ^ d → IsPoly m₁ (2 ^ d₁) v₁ → IsPoly m₂ (2 ^ d₂) v₂ → now ≡ raised_sums sums v₁ v₂ →
     inverse_transform m r d (remainders m now) ≡ ring_sum p.q p.n s.poly (ring_product p.q p.n f.poly g.poly)
 sum_stands p m r d m₁ r₁ d₁ m₂ r₂ d₂ now sums v₁ v₂ s f g es hs ef hf eg hg len p₁ p₂ is =
@@ -125,6 +125,6 @@ sum_stands p m r d m₁ r₁ d₁ m₂ r₂ d₂ now sums v₁ v₂ s f g es hs 
       below = subst (λ (x : ℕ). All (λ y. y < x) v) e' h.below;
     }
 
-pub sum_fits : (p : Params) (m r d : ℕ) (v now h : List ℕ) (s : Evaluated) → evaluated m r d v ≡ s → Fits p s → inverse_transform m r d now ≡ ring_sum p.q p.n s.poly h → Fits p (evaluated m r d now)
+pub sum_fits : (p : Params) (m r d : ℕ) (v now h : List ℕ) (s : Evaluated) → evaluated m r d v ≡ s → EvaluatedFits p s → inverse_transform m r d now ≡ ring_sum p.q p.n s.poly h → EvaluatedFits p (evaluated m r d now)
 sum_fits p m r d v now h s e hs is =
     fits_as p m r d now (ring_sum p.q p.n s.poly h) (is_of p m r d v s e hs) is (sum-fits p.q p.n s.poly h _ refl (omega (arith, p.modulus.0)))

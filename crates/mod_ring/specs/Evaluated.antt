@@ -23,7 +23,7 @@ pub record Gathered : Type 0 where
   pub value : Evaluated
 
 -- it fits a ring that has this modulus, this degree and this root, and of which the polynomial is one
-pub record Fits (p : Params) (f : Evaluated) : Type 0 where
+pub record EvaluatedFits (p : Params) (f : Evaluated) : Type 0 where
   pub modulus : f.modulus ≡ p.q
   pub degree : f.degree ≡ p.n
   pub root : f.root ≡ p.psi

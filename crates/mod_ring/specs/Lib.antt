@@ -1,2 +1,3 @@
+pub mod Fits
 pub mod Evaluated
 pub mod WideSums

@@ -1,6 +1,6 @@
 ghost use Rattle.std.specs.Prelude.{◌≡◌, ◌+◌, ◌<◌, replicate, IfOk};
-ghost use Rattle.ring_spec.specs.Ring.{IsPoly, ring_sum, ring_product};
-ghost use Rattle.mod_ring.specs.Evaluated.{Fits};
+ghost use Rattle.ring_spec.specs.Ring.{ring_sum, ring_product};
+ghost use Rattle.mod_ring.specs.Evaluated.{EvaluatedFits};
 
 use crate::poly::Poly;
 use crate::ring::Ring;
@@ -23,6 +23,7 @@ pub struct ProductSum {
 
 impl Model for ProductSum {
     ghost use Rattle.std.specs.Prelude.{◌≡◌, ◌^◌, length};
+    ghost use Rattle.mod_ring.specs.Fits.{Fits};
     ghost use Rattle.mod_ring.specs.Evaluated.{Gathered, evaluated};
     ghost use Rattle.mod_ring.specs.WideSums.{remainders, AreWithin};
 
@@ -42,7 +43,7 @@ impl ProductSum {
     pub fn new(alloc: Global, ring: &Ring) -> Result<ProductSum, AllocError>
         ensures terms { IfOk result (λ s. s.terms ≡ 0) }
         ensures value { IfOk result (λ s. s.value.poly ≡ replicate ring.now.params.n 0) }
-        ensures fits { IfOk result (λ s. Fits ring.now.params s.value) }
+        ensures fits { IfOk result (λ s. EvaluatedFits ring.now.params s.value) }
     {
         let tables = ring.tables();
         let sums = vec![in alloc; 0; tables.length as usize]?;
@@ -65,14 +66,14 @@ impl ProductSum {
     /// Adds the product of f and g.
     pub fn add_product(&mut self, _ring: &Ring, f: &Transformed, g: &Transformed)
         requires room { self.old.terms < 65536 }
-        requires sum { Fits _ring.now.params self.old.value }
-        requires left { Fits _ring.now.params f.now }
-        requires right { Fits _ring.now.params g.now }
+        requires sum { EvaluatedFits _ring.now.params self.old.value }
+        requires left { EvaluatedFits _ring.now.params f.now }
+        requires right { EvaluatedFits _ring.now.params g.now }
         ensures terms { self.new.terms ≡ self.old.terms + 1 }
         ensures value { let q = _ring.now.params.q in let n = _ring.now.params.n in
             self.new.value.poly ≡
             ring_sum q n self.old.value.poly (ring_product q n f.now.poly g.now.poly) }
-        ensures fits { Fits _ring.now.params self.new.value }
+        ensures fits { EvaluatedFits _ring.now.params self.new.value }
     {
         add_products(
             self.terms,
@@ -85,9 +86,9 @@ impl ProductSum {
 
     /// The polynomial: each entry is reduced, and the values are taken back, once.
     pub fn into_poly(self, alloc: Global, ring: &Ring) -> Result<Poly, AllocError>
-        requires { Fits ring.now.params self.value }
+        requires { EvaluatedFits ring.now.params self.value }
         ensures value { IfOk result (λ f. f ≡ self.value.poly) }
-        ensures fits { IfOk result (λ f. IsPoly ring.now.params.q ring.now.params.n f) }
+        ensures fits { IfOk result (λ f. Fits ring.now f) }
     {
         let mut coeffs = reduced(alloc, self.modulus, self.sums.as_slice())?;
         ring.tables().inverse(coeffs.as_mut_slice());

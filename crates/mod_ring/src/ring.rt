@@ -1,4 +1,5 @@
 ghost use Rattle.std.specs.Prelude.{◌≡◌, ℕ, ◌<◌, [], length, map, replicate, IfOk, slice_index_or, slice_set};
+ghost use Rattle.mod_ring.specs.Fits.{Fits};
 ghost use Rattle.ring_spec.specs.Ring.{IsPoly, residue, residues, signed, ring_sum, ring_difference, ring_negative, ring_multiple, ring_product};
 
 use crate::entries::{add_entries, neg_entries, scale_entries, sub_entries};
@@ -45,7 +46,7 @@ impl Ring {
 /// The zero polynomial.
 pub fn zero(alloc: Global, ring: &Ring) -> Result<Poly, AllocError>
     ensures value { IfOk result (λ f. f ≡ replicate ring.now.params.n 0) }
-    ensures fits { IfOk result (λ f. IsPoly ring.now.params.q ring.now.params.n f) }
+    ensures fits { IfOk result (λ f. Fits ring.now f) }
 {
     let coeffs = vec![in alloc; 0; ring.params().n() as usize]?;
     Ok(Poly { coeffs })
@@ -64,7 +65,7 @@ fn residues_of(alloc: Global, q: u64, coeffs: &[i64]) -> Result<Vec<u64>, AllocE
 pub fn of_signed(alloc: Global, ring: &Ring, coeffs: &[i64]) -> Result<Poly, AllocError>
     requires { length coeffs.now ≡ ring.now.params.n }
     ensures value { IfOk result (λ f. f ≡ residues ring.now.params.q ring.now.params.n (signed coeffs.now)) }
-    ensures fits { IfOk result (λ f. IsPoly ring.now.params.q ring.now.params.n f) }
+    ensures fits { IfOk result (λ f. Fits ring.now f) }
 {
     let coeffs = residues_of(alloc, ring.params().q(), coeffs)?;
     Ok(Poly { coeffs })
@@ -80,10 +81,10 @@ pub fn of_residues(_params: &Params, values: Vec<u64>) -> Poly
 
 /// Adds f to acc.
 pub fn add_into(ring: &Ring, acc: &mut Poly, f: &Poly)
-    requires left { IsPoly ring.now.params.q ring.now.params.n acc.old }
-    requires right { IsPoly ring.now.params.q ring.now.params.n f.now }
+    requires left { Fits ring.now acc.old }
+    requires right { Fits ring.now f.now }
     ensures value { acc.new ≡ ring_sum ring.now.params.q ring.now.params.n acc.old f.now }
-    ensures fits { IsPoly ring.now.params.q ring.now.params.n acc.new }
+    ensures fits { Fits ring.now acc.new }
 {
     add_entries(ring.params().q(), acc.coeffs.as_mut_slice(), f.coeffs());
 }
@@ -91,8 +92,8 @@ pub fn add_into(ring: &Ring, acc: &mut Poly, f: &Poly)
 /// Adds f to the polynomial at a place of a list; all others stay.
 pub fn add_into_row(ring: &Ring, rows: &mut Polys, place: usize, f: &Poly)
     requires place { place < length rows.old }
-    requires left { IsPoly ring.now.params.q ring.now.params.n (slice_index_or rows.old place []) }
-    requires right { IsPoly ring.now.params.q ring.now.params.n f.now }
+    requires left { Fits ring.now (slice_index_or rows.old place []) }
+    requires right { Fits ring.now f.now }
     ensures { rows.new ≡ slice_set rows.old place (ring_sum ring.now.params.q ring.now.params.n (slice_index_or rows.old place []) f.now) }
 {
     add_into(ring, &mut rows.items[place], f);
@@ -100,29 +101,29 @@ pub fn add_into_row(ring: &Ring, rows: &mut Polys, place: usize, f: &Poly)
 
 /// Subtracts f from acc.
 pub fn sub_into(ring: &Ring, acc: &mut Poly, f: &Poly)
-    requires left { IsPoly ring.now.params.q ring.now.params.n acc.old }
-    requires right { IsPoly ring.now.params.q ring.now.params.n f.now }
+    requires left { Fits ring.now acc.old }
+    requires right { Fits ring.now f.now }
     ensures value { acc.new ≡ ring_difference ring.now.params.q ring.now.params.n acc.old f.now }
-    ensures fits { IsPoly ring.now.params.q ring.now.params.n acc.new }
+    ensures fits { Fits ring.now acc.new }
 {
     sub_entries(ring.params().q(), acc.coeffs.as_mut_slice(), f.coeffs());
 }
 
 /// Makes acc its negative.
 pub fn neg_into(ring: &Ring, acc: &mut Poly)
-    requires { IsPoly ring.now.params.q ring.now.params.n acc.old }
+    requires { Fits ring.now acc.old }
     ensures value { acc.new ≡ ring_negative ring.now.params.q ring.now.params.n acc.old }
-    ensures fits { IsPoly ring.now.params.q ring.now.params.n acc.new }
+    ensures fits { Fits ring.now acc.new }
 {
     neg_entries(ring.params().q(), acc.coeffs.as_mut_slice());
 }
 
 /// Multiplies acc by a number below q.
 pub fn scale_into(ring: &Ring, acc: &mut Poly, k: u64)
-    requires poly { IsPoly ring.now.params.q ring.now.params.n acc.old }
+    requires poly { Fits ring.now acc.old }
     requires factor { k < ring.now.params.q }
     ensures value { acc.new ≡ ring_multiple ring.now.params.q ring.now.params.n k acc.old }
-    ensures fits { IsPoly ring.now.params.q ring.now.params.n acc.new }
+    ensures fits { Fits ring.now acc.new }
 {
     scale_entries(ring.params().q(), acc.coeffs.as_mut_slice(), k);
 }
@@ -130,10 +131,10 @@ pub fn scale_into(ring: &Ring, acc: &mut Poly, k: u64)
 /// The product of f and g, by transforms.
 #[tactic(auto, using(crate::proofs::Fits::fits))]
 pub fn mul(alloc: Global, ring: &Ring, f: &Poly, g: &Poly) -> Result<Poly, AllocError>
-    requires left { IsPoly ring.now.params.q ring.now.params.n f.now }
-    requires right { IsPoly ring.now.params.q ring.now.params.n g.now }
+    requires left { Fits ring.now f.now }
+    requires right { Fits ring.now g.now }
     ensures value { IfOk result (λ h. h ≡ ring_product ring.now.params.q ring.now.params.n f.now g.now) }
-    ensures fits { IfOk result (λ h. IsPoly ring.now.params.q ring.now.params.n h) }
+    ensures fits { IfOk result (λ h. Fits ring.now h) }
 {
     let coeffs = ring.params.product(alloc, f.coeffs(), g.coeffs())?;
     Ok(Poly { coeffs })

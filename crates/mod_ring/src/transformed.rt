@@ -1,6 +1,6 @@
 ghost use Rattle.std.specs.Prelude.{◌≡◌, IfOk};
 ghost use Rattle.ring_spec.specs.Ring.{IsPoly, ring_product};
-ghost use Rattle.mod_ring.specs.Evaluated.{Fits};
+ghost use Rattle.mod_ring.specs.Evaluated.{EvaluatedFits};
 
 use crate::poly::Poly;
 use crate::ring::Ring;
@@ -21,6 +21,7 @@ pub struct Transformed {
 
 impl Model for Transformed {
     ghost use Rattle.std.specs.Prelude.{◌^◌};
+    ghost use Rattle.mod_ring.specs.Fits.{Fits};
     ghost use Rattle.ring_spec.specs.Ring.{IsPoly};
     ghost use Rattle.mod_ring.specs.Evaluated.{Evaluated, evaluated};
 
@@ -34,9 +35,9 @@ impl Model for Transformed {
 impl Transformed {
     /// The transform of f.
     pub fn of(alloc: Global, ring: &Ring, f: &Poly) -> Result<Transformed, AllocError>
-        requires { IsPoly ring.now.params.q ring.now.params.n f.now }
+        requires { Fits ring.now f.now }
         ensures value { IfOk result (λ t. t.poly ≡ f.now) }
-        ensures fits { IfOk result (λ t. Fits ring.now.params t) }
+        ensures fits { IfOk result (λ t. EvaluatedFits ring.now.params t) }
     {
         let tables = ring.tables();
         let mut values = f.coeffs().to_vec(alloc)?;
@@ -51,9 +52,9 @@ impl Transformed {
 
     /// The polynomial, as a copy.
     pub fn to_poly(&self, alloc: Global, ring: &Ring) -> Result<Poly, AllocError>
-        requires { Fits ring.now.params self.now }
+        requires { EvaluatedFits ring.now.params self.now }
         ensures value { IfOk result (λ f. f ≡ self.now.poly) }
-        ensures fits { IfOk result (λ f. IsPoly ring.now.params.q ring.now.params.n f) }
+        ensures fits { IfOk result (λ f. Fits ring.now f) }
     {
         let mut coeffs = self.values.to_vec(alloc)?;
         ring.tables().inverse(coeffs.as_mut_slice());
@@ -62,9 +63,9 @@ impl Transformed {
 
     /// The polynomial, in the memory of its values.
     pub fn into_poly(self, ring: &Ring) -> Poly
-        requires { Fits ring.now.params self }
+        requires { EvaluatedFits ring.now.params self }
         ensures value { result ≡ self.poly }
-        ensures fits { IsPoly ring.now.params.q ring.now.params.n result }
+        ensures fits { Fits ring.now result }
     {
         let mut coeffs = self.values;
         ring.tables().inverse(coeffs.as_mut_slice());
@@ -73,11 +74,11 @@ impl Transformed {
 
     /// Multiplies by another, entry by entry.
     pub fn multiply_into(&mut self, ring: &Ring, other: &Transformed)
-        requires left { Fits ring.now.params self.old }
-        requires right { Fits ring.now.params other.now }
+        requires left { EvaluatedFits ring.now.params self.old }
+        requires right { EvaluatedFits ring.now.params other.now }
         ensures value { self.new.poly ≡
             ring_product ring.now.params.q ring.now.params.n self.old.poly other.now.poly }
-        ensures fits { Fits ring.now.params self.new }
+        ensures fits { EvaluatedFits ring.now.params self.new }
     {
         ring.tables()
             .multiply_into(self.values.as_mut_slice(), other.values.as_slice());

@@ -1,5 +1,6 @@
 ghost use Rattle.std.specs.Prelude.{◌≡◌, ℕ, ◌+◌, ◌*◌, ◌%◌, ◌^◌, ◌<◌, ◌≤◌, length, replicate, IfOk, IsTrue, slice_set, ◌-◌, pos, neg_ℤ};
 ghost use Rattle.std.specs.Int.{is_power_of_two};
+ghost use Rattle.mod_ring.specs.Fits.{Fits};
 ghost use Rattle.ring_spec.specs.Ring.{IsPoly, residue, ring_turned};
 
 use crate::entries::negative_of;
@@ -58,10 +59,10 @@ fn turn_entries(q: u64, g: usize, entries: &mut [u64], f: &[u64])
 pub fn phi(alloc: Global, ring: &Ring, g: u32, f: &Poly) -> Result<Poly, AllocError>
     requires odd { g % 2 ≡ 1 }
     requires exponent { g < 2 * ring.now.params.n }
-    requires poly { IsPoly ring.now.params.q ring.now.params.n f.now }
+    requires poly { Fits ring.now f.now }
     ensures value { IfOk result (λ h.
         h ≡ ring_turned ring.now.params.q ring.now.params.n g f.now) }
-    ensures fits { IfOk result (λ h. IsPoly ring.now.params.q ring.now.params.n h) }
+    ensures fits { IfOk result (λ h. Fits ring.now h) }
 {
     let mut image = zero(alloc, ring)?;
     turn_entries(

@@ -1,5 +1,5 @@
 ghost use Rattle.std.specs.Prelude.{IfOk};
-ghost use Rattle.ring_spec.specs.Ring.{IsPoly};
+ghost use Rattle.mod_ring.specs.Fits.{Fits};
 
 use mod_ring::{Poly, Ring, mul, of_residues};
 use param_set::{Params, RawParams};
@@ -44,7 +44,7 @@ pub fn measure_products<R: Print + Clock + AllocGlobal>(rt: &R, n: u64) -> io::R
 
 /// The polynomial whose coefficients are all 1.
 fn ones(alloc: Global, ring: &Ring) -> Result<Poly, AllocError>
-    ensures { IfOk result (λ f. IsPoly ring.now.params.q ring.now.params.n f) }
+    ensures { IfOk result (λ f. Fits ring.now f) }
 {
     let values = vec![in alloc; 1; ring.params().n() as usize]?;
     Ok(of_residues(ring.params(), values))
@@ -52,9 +52,9 @@ fn ones(alloc: Global, ring: &Ring) -> Result<Poly, AllocError>
 
 /// f times g, sixteen times over.
 fn often(alloc: Global, ring: &Ring, f: Poly, g: &Poly) -> Result<Poly, AllocError>
-    requires left { IsPoly ring.now.params.q ring.now.params.n f }
-    requires right { IsPoly ring.now.params.q ring.now.params.n g.now }
-    ensures { IfOk result (λ h. IsPoly ring.now.params.q ring.now.params.n h) }
+    requires left { Fits ring.now f }
+    requires right { Fits ring.now g.now }
+    ensures { IfOk result (λ h. Fits ring.now h) }
 {
     let mut product = f;
     'repeats: for _ in 0..16u32 {

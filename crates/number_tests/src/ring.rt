@@ -1,6 +1,6 @@
 //! Each call once, over the ring with n = 8 and q = 31525197391593473; and products at other lengths.
 ghost use Rattle.std.specs.Prelude.{◌≡◌, ◌<◌, length, IfOk};
-ghost use Rattle.ring_spec.specs.Ring.{IsPoly};
+ghost use Rattle.mod_ring.specs.Fits.{Fits};
 
 use crate::schoolbook::schoolbook;
 use mod_ring::{
@@ -19,7 +19,7 @@ const Q: u64 = 31_525_197_391_593_473;
 /// -1 + 2 X.
 fn first(alloc: Global, ring: &Ring) -> Result<Poly, AllocError>
     requires { ring.now.params.n ≡ 8 }
-    ensures { IfOk result (λ f. IsPoly ring.now.params.q ring.now.params.n f) }
+    ensures { IfOk result (λ f. Fits ring.now f) }
 {
     of_signed(alloc, ring, &[-1, 2, 0, 0, 0, 0, 0, 0])
 }
@@ -27,7 +27,7 @@ fn first(alloc: Global, ring: &Ring) -> Result<Poly, AllocError>
 /// X^7.
 fn last(alloc: Global, ring: &Ring) -> Result<Poly, AllocError>
     requires { ring.now.params.n ≡ 8 }
-    ensures { IfOk result (λ f. IsPoly ring.now.params.q ring.now.params.n f) }
+    ensures { IfOk result (λ f. Fits ring.now f) }
 {
     of_signed(alloc, ring, &[0, 0, 0, 0, 0, 0, 0, 1])
 }
@@ -36,9 +36,9 @@ fn last(alloc: Global, ring: &Ring) -> Result<Poly, AllocError>
 fn changes<R: Abort>(rt: &R, ring: &Ring, acc: &mut Poly, f: &Poly, g: &Poly)
     requires degree { ring.now.params.n ≡ 8 }
     requires modulus { 3 < ring.now.params.q }
-    requires acc { IsPoly ring.now.params.q ring.now.params.n acc.old }
-    requires f { IsPoly ring.now.params.q ring.now.params.n f.now }
-    requires g { IsPoly ring.now.params.q ring.now.params.n g.now }
+    requires acc { Fits ring.now acc.old }
+    requires f { Fits ring.now f.now }
+    requires g { Fits ring.now g.now }
 {
     add_into(ring, acc, f);
     add_into(ring, acc, f);
@@ -69,7 +69,7 @@ const MINUS_ONE: [u64; 8] = [31_525_197_391_593_472, 0, 0, 0, 0, 0, 0, 0];
 /// X.
 fn x(alloc: Global, ring: &Ring) -> Result<Poly, AllocError>
     requires { ring.now.params.n ≡ 8 }
-    ensures { IfOk result (λ f. IsPoly ring.now.params.q ring.now.params.n f) }
+    ensures { IfOk result (λ f. Fits ring.now f) }
 {
     of_signed(alloc, ring, &[0, 1, 0, 0, 0, 0, 0, 0])
 }

@@ -1,7 +1,7 @@
 //! What a party of a session does.
 ghost use Rattle.std.specs.Prelude.{◌≡◌, ℕ, ◌<◌, List, Bool, true, length, All, Some, IsSome, IfOk};
+ghost use Rattle.mod_ring.specs.Fits.{Fits};
 ghost use Rattle.ring_spec.specs.Pairs.{KeyFits, CipherFits};
-ghost use Rattle.ring_spec.specs.Ring.{IsPoly};
 ghost use Rattle.draw_spec.specs.Streams.{input_stream};
 ghost use Rattle.bfv_spec.specs.Drawn.{drawn_encryption};
 ghost use Rattle.param_set.specs.Moduli.{digit_rows};
@@ -51,7 +51,7 @@ pub trait Party: Sync {
         ensures id { IfOk result (λ share. share.id ≡ brief.now.id) }
         ensures party { IfOk result (λ share. share.party ≡ number self.now) }
         ensures rows { IfOk result (λ share. length share.rows ≡ rows_of brief.now.signature (digit_rows ring.now.params.q ring.now.params.digit_bits)) }
-        ensures fit { IfOk result (λ share. All (IsPoly ring.now.params.q ring.now.params.n) share.rows) }
+        ensures fit { IfOk result (λ share. All (Fits ring.now) share.rows) }
         ensures honest { (w : Setting) → w.numbers ≡ numbers_of ring.now.params → w.public ≡ public self.now → tells self.now ≡ true
             → IfOk result (λ share. share.rows ≡ share_rows w (seeds self.now) brief.now.signature brief.now.id brief.now.set.bits brief.now.polys (number self.now)) };
 

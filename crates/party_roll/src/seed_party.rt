@@ -72,7 +72,7 @@ impl SeedParty {
     fn part(&self, alloc: Global, ring: &Ring, set: PartySet) -> Result<Poly, AllocError>
         requires { self.now.params ≡ ring.now.params }
         ensures value { IfOk result (λ f. f ≡ part ring.now.params.q ring.now.params.n ring.now.params.threshold (seeds_of self.now.roll.master ring.now.params.parties) set.bits self.now.number) }
-        ensures fits { IfOk result (λ f. IsPoly ring.now.params.q ring.now.params.n f) }
+        ensures fits { IfOk result (λ f. Fits ring.now f) }
     {
         additive(alloc, ring, &self.share, set, self.number)
     }
@@ -87,7 +87,7 @@ impl SeedParty {
     ) -> Result<Polys, AllocError>
         requires { self.now.params ≡ ring.now.params }
         ensures value { IfOk result (λ rows. rows ≡ honest_pk ring.now.params.q ring.now.params.n ring.now.params.err (party_seed self.now.roll.master 0) (party_seed self.now.roll.master self.now.number) id (part ring.now.params.q ring.now.params.n ring.now.params.threshold (seeds_of self.now.roll.master ring.now.params.parties) set.bits self.now.number) ∷ []) }
-        ensures fits { IfOk result (λ rows. All (IsPoly ring.now.params.q ring.now.params.n) rows) }
+        ensures fits { IfOk result (λ rows. All (Fits ring.now) rows) }
     {
         let part = self.part(alloc, ring, set)?;
         let seed = self.roll.seed(self.number);
@@ -105,9 +105,9 @@ impl SeedParty {
         c1: &Poly,
     ) -> Result<Polys, AllocError>
         requires ring { self.now.params ≡ ring.now.params }
-        requires cipher { IsPoly ring.now.params.q ring.now.params.n c1.now }
+        requires cipher { Fits ring.now c1.now }
         ensures value { IfOk result (λ rows. rows ≡ honest_dec ring.now.params.q ring.now.params.n ring.now.params.flood (party_seed self.now.roll.master self.now.number) id c1.now (part ring.now.params.q ring.now.params.n ring.now.params.threshold (seeds_of self.now.roll.master ring.now.params.parties) set.bits self.now.number) ∷ []) }
-        ensures fits { IfOk result (λ rows. All (IsPoly ring.now.params.q ring.now.params.n) rows) }
+        ensures fits { IfOk result (λ rows. All (Fits ring.now) rows) }
     {
         let part = self.part(alloc, ring, set)?;
         let seed = self.roll.seed(self.number);
@@ -123,6 +123,7 @@ impl SeedParty {
     ghost use Rattle.proto_names.specs.Names.{rows_of};
     ghost use Rattle.party_roll.specs.Briefs.{IsBrief};
     ghost use Rattle.std.specs.Prelude.{length};
+    ghost use Rattle.mod_ring.specs.Fits.{Fits};
     ghost use Rattle.ring_spec.specs.Pairs.{KeyFits, CipherFits};
 
     /// The rows of its share of an instance.
@@ -131,7 +132,7 @@ impl SeedParty {
         requires ring { self.now.params ≡ ring.now.params }
         requires polys { IsBrief ring.now.params brief.now }
         ensures number { IfOk result (λ rows. length rows ≡ rows_of brief.now.signature (digit_rows ring.now.params.q ring.now.params.digit_bits)) }
-        ensures fits { IfOk result (λ rows. All (IsPoly ring.now.params.q ring.now.params.n) rows) }
+        ensures fits { IfOk result (λ rows. All (Fits ring.now) rows) }
         ensures value { (w : Setting) → w.numbers ≡ numbers_of ring.now.params → w.public ≡ party_seed self.now.roll.master 0
             → IfOk result (λ rows. rows ≡ share_rows w (seeds_of self.now.roll.master ring.now.params.parties) brief.now.signature brief.now.id brief.now.set.bits brief.now.polys self.now.number) }
     {

@@ -1,5 +1,5 @@
 ghost use Rattle.std.specs.Prelude.{◌≡◌, ℕ, ◌*◌, ◌^◌, ◌≤◌, IfOk, OnOk, OnErr};
-ghost use Rattle.ring_spec.specs.Ring.{IsPoly};
+ghost use Rattle.mod_ring.specs.Fits.{Fits};
 ghost use Rattle.bfv_spec.specs.Drawn.{uniform_poly, small_poly, wide_poly, ternary_poly};
 ghost use Rattle.word_tape.specs.Standing.{moved};
 
@@ -11,7 +11,7 @@ use word_tape::Tape;
 /// A polynomial with uniform coefficients, four words each.
 pub fn uniform(alloc: Global, ring: &Ring, tape: &mut Tape) -> Result<Poly, AllocError>
     ensures value { IfOk result (λ f. f ≡ uniform_poly ring.now.params.q ring.now.params.n tape.old.seed tape.old.stream tape.old.next) }
-    ensures fits { IfOk result (λ f. IsPoly ring.now.params.q ring.now.params.n f) }
+    ensures fits { IfOk result (λ f. Fits ring.now f) }
     ensures place { OnOk result (tape.new ≡ moved tape.old (4 * ring.now.params.n)) }
     ensures err { OnErr result (tape.new ≡ tape.old) }
 {
@@ -25,7 +25,7 @@ pub fn uniform(alloc: Global, ring: &Ring, tape: &mut Tape) -> Result<Poly, Allo
 pub fn small(alloc: Global, ring: &Ring, bound: u64, tape: &mut Tape) -> Result<Poly, AllocError>
     requires { bound ≤ 255 }
     ensures value { IfOk result (λ f. f ≡ small_poly ring.now.params.q ring.now.params.n bound tape.old.seed tape.old.stream tape.old.next) }
-    ensures fits { IfOk result (λ f. IsPoly ring.now.params.q ring.now.params.n f) }
+    ensures fits { IfOk result (λ f. Fits ring.now f) }
     ensures place { OnOk result (tape.new ≡ moved tape.old ring.now.params.n) }
     ensures err { OnErr result (tape.new ≡ tape.old) }
 {
@@ -39,7 +39,7 @@ pub fn small(alloc: Global, ring: &Ring, bound: u64, tape: &mut Tape) -> Result<
 pub fn wide(alloc: Global, ring: &Ring, bound: u64, tape: &mut Tape) -> Result<Poly, AllocError>
     requires { bound ≤ 2 ^ 40 }
     ensures value { IfOk result (λ f. f ≡ wide_poly ring.now.params.q ring.now.params.n bound tape.old.seed tape.old.stream tape.old.next) }
-    ensures fits { IfOk result (λ f. IsPoly ring.now.params.q ring.now.params.n f) }
+    ensures fits { IfOk result (λ f. Fits ring.now f) }
     ensures place { OnOk result (tape.new ≡ moved tape.old (2 * ring.now.params.n)) }
     ensures err { OnErr result (tape.new ≡ tape.old) }
 {
@@ -52,7 +52,7 @@ pub fn wide(alloc: Global, ring: &Ring, bound: u64, tape: &mut Tape) -> Result<P
 /// A polynomial with coefficients -1, 0 and 1, a word each.
 pub fn ternary(alloc: Global, ring: &Ring, tape: &mut Tape) -> Result<Poly, AllocError>
     ensures value { IfOk result (λ f. f ≡ ternary_poly ring.now.params.q ring.now.params.n tape.old.seed tape.old.stream tape.old.next) }
-    ensures fits { IfOk result (λ f. IsPoly ring.now.params.q ring.now.params.n f) }
+    ensures fits { IfOk result (λ f. Fits ring.now f) }
     ensures place { OnOk result (tape.new ≡ moved tape.old ring.now.params.n) }
     ensures err { OnErr result (tape.new ≡ tape.old) }
 {

@@ -1,7 +1,7 @@
 //! Shares and answers of two whole runs with the master seed of 32 zeros, worked out by another
 //! implementation: one party alone, and the first two of three. Each run adds two inputs.
 ghost use Rattle.std.specs.Prelude.{◌≡◌, All, IfOk, length};
-ghost use Rattle.ring_spec.specs.Ring.{IsPoly};
+ghost use Rattle.mod_ring.specs.Fits.{Fits};
 
 use decrypt_protocol::{dec_finish, dec_share};
 use mod_ring::{Poly, Polys, Ring, add_into, of_signed};
@@ -126,7 +126,7 @@ const SECOND_SHARE: [i64; 8] = [
 /// A polynomial of the frame's ring.
 fn poly(alloc: Global, ring: &Ring, coeffs: &[i64; 8]) -> Result<Poly, AllocError>
     requires { ring.now.params.n ≡ 8 }
-    ensures { IfOk result (λ f. IsPoly ring.now.params.q ring.now.params.n f) }
+    ensures { IfOk result (λ f. Fits ring.now f) }
 {
     of_signed(alloc, ring, coeffs)
 }
@@ -179,7 +179,7 @@ fn sums_of(
 ) -> Result<Polys, AllocError>
     requires { ring.now.params.n ≡ 8 }
     ensures one_row { IfOk result (λ sums. length sums ≡ 1) }
-    ensures fit { IfOk result (λ sums. All (IsPoly ring.now.params.q ring.now.params.n) sums) }
+    ensures fit { IfOk result (λ sums. All (Fits ring.now) sums) }
 {
     let mut sum = poly(alloc, ring, first)?;
     add_into(ring, &mut sum, &poly(alloc, ring, second)?);

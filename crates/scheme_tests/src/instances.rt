@@ -1,6 +1,6 @@
 //! A table over small polynomials: n = 8 and q = 31525197391593473, three parties of which two act.
 ghost use Rattle.std.specs.Prelude.{◌≡◌, [], ◌∷◌, All, IfOk, length, replicate};
-ghost use Rattle.ring_spec.specs.Ring.{IsPoly};
+ghost use Rattle.mod_ring.specs.Fits.{Fits};
 ghost use Rattle.instance_table.specs.Tables.{awaits};
 
 use instance_table::{Brief, Count, Share, Stage, Table};
@@ -68,7 +68,7 @@ fn awaits(table: &Table, id: u32, party: u32) -> bool
 fn row(alloc: Global, ring: &Ring, constant: i64) -> Result<Polys, AllocError>
     requires { ring.now.params.n ≡ 8 }
     ensures one { IfOk result (λ rows. length rows ≡ 1) }
-    ensures fits { IfOk result (λ rows. All (IsPoly ring.now.params.q ring.now.params.n) rows) }
+    ensures fits { IfOk result (λ rows. All (Fits ring.now) rows) }
 {
     let mut rows = Polys::new(alloc);
     rows.push(of_signed(alloc, ring, &[constant, 0, 0, 0, 0, 0, 0, 0])?)?;

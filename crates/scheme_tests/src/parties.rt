@@ -1,6 +1,6 @@
 ghost use Rattle.std.specs.Prelude.{◌≡◌, ◌<◌, ◌≤◌, true, length, All, IfOk, IsSome};
+ghost use Rattle.mod_ring.specs.Fits.{Fits};
 ghost use Rattle.ring_spec.specs.Pairs.{KeyFits};
-ghost use Rattle.ring_spec.specs.Ring.{IsPoly};
 ghost use Rattle.param_set.specs.Moduli.{digit_rows};
 ghost use Rattle.proto_names.specs.Names.{rows_of};
 ghost use Rattle.draw_spec.specs.Streams.{party_seed};
@@ -46,7 +46,7 @@ fn share_of<P: Party>(
     requires public { P.public party.now ≡ party_seed roll.now.master 0 }
     requires seeds { P.seeds party.now ≡ seeds_of roll.now.master ring.now.params.parties }
     ensures rows { IfOk result (λ share. length share.rows ≡ rows_of brief.now.signature (digit_rows ring.now.params.q ring.now.params.digit_bits)) }
-    ensures fit { IfOk result (λ share. All (IsPoly ring.now.params.q ring.now.params.n) share.rows) }
+    ensures fit { IfOk result (λ share. All (Fits ring.now) share.rows) }
     ensures honest { (w : Setting) → w.numbers ≡ numbers_of ring.now.params → w.public ≡ party_seed roll.now.master 0
         → IfOk result (λ share. share.rows ≡ share_rows w (seeds_of roll.now.master ring.now.params.parties) brief.now.signature brief.now.id brief.now.set.bits brief.now.polys (P.number party.now)) }
 {
@@ -57,7 +57,7 @@ fn share_of<P: Party>(
 fn start_of(ring: &Ring, share: &Share) -> [u64; 2]
     requires more { 2 ≤ ring.now.params.n }
     requires one_row { length share.now.rows ≡ 1 }
-    requires fit { All (IsPoly ring.now.params.q ring.now.params.n) share.now.rows }
+    requires fit { All (Fits ring.now) share.now.rows }
 {
     let coeffs = share.rows.at(0).coeffs();
     [coeffs[0], coeffs[1]]
@@ -164,7 +164,7 @@ const SHARES: [(u32, [u64; 2], [u64; 2]); 2] = [
 fn is_told(ring: &Ring, share: &Share, id: u32, p: u32, start: [u64; 2]) -> bool
     requires more { 2 ≤ ring.now.params.n }
     requires one_row { length share.now.rows ≡ 1 }
-    requires fit { All (IsPoly ring.now.params.q ring.now.params.n) share.now.rows }
+    requires fit { All (Fits ring.now) share.now.rows }
 {
     (share.id, share.party, share.rows.len()) == (id, p, 1) && start_of(ring, share) == start
 }

@@ -1,5 +1,5 @@
 ghost use Rattle.std.specs.Prelude.{◌≡◌, ◌<◌, ◌≤◌, All, IfOk, length};
-ghost use Rattle.ring_spec.specs.Ring.{IsPoly};
+ghost use Rattle.mod_ring.specs.Fits.{Fits};
 
 use mod_ring::{Poly, Ring};
 use param_set::{ParamFault, Params, RawParams};
@@ -13,7 +13,7 @@ use std::test::Fail;
 fn dealt(alloc: Global, ring: &Ring, seed: [u8; 32], point: u32) -> Result<Poly, AllocError>
     requires some_party { 1 ≤ point }
     requires of_all { point ≤ ring.now.params.parties }
-    ensures { IfOk result (λ f. IsPoly ring.now.params.q ring.now.params.n f) }
+    ensures { IfOk result (λ f. Fits ring.now f) }
 {
     let dealing = Dealing::new(alloc, ring, seed)?;
     dealing.at(alloc, ring, point)
@@ -23,7 +23,7 @@ fn dealt(alloc: Global, ring: &Ring, seed: [u8; 32], point: u32) -> Result<Poly,
 fn share_of(alloc: Global, ring: &Ring, point: u32) -> Result<Poly, AllocError>
     requires some_party { 1 ≤ point }
     requires of_all { point ≤ ring.now.params.parties }
-    ensures { IfOk result (λ f. IsPoly ring.now.params.q ring.now.params.n f) }
+    ensures { IfOk result (λ f. Fits ring.now f) }
 {
     let a = dealt(alloc, ring, [1; 32], point)?;
     let b = dealt(alloc, ring, [2; 32], point)?;
@@ -35,7 +35,7 @@ fn share_of(alloc: Global, ring: &Ring, point: u32) -> Result<Poly, AllocError>
 fn part_of(alloc: Global, ring: &Ring, set: PartySet, point: u32) -> Result<Poly, AllocError>
     requires some_party { 1 ≤ point }
     requires of_all { point ≤ ring.now.params.parties }
-    ensures { IfOk result (λ f. IsPoly ring.now.params.q ring.now.params.n f) }
+    ensures { IfOk result (λ f. Fits ring.now f) }
 {
     let share = share_of(alloc, ring, point)?;
     additive(alloc, ring, &share, set, point)

@@ -1,5 +1,6 @@
 //! The last share of an instance: what it makes is made before anything is changed.
 ghost use Rattle.std.specs.Prelude.{◌≡◌, ◌+◌, ◌^◌, ◌<◌, ◌≤◌, ℕ, [], length, slice_index_or, All, IfOk, OnOk, OnErr};
+ghost use Rattle.mod_ring.specs.Fits.{Fits};
 ghost use Rattle.ring_spec.specs.Ring.{IsPoly, ring_sum};
 ghost use Rattle.bfv_spec.specs.Scheme.{decryption};
 ghost use Rattle.proto_names.specs.Instances.{after_share, missing};
@@ -45,12 +46,12 @@ pub(crate) enum Made {
 fn with_row(alloc: Global, ring: &Ring, held: &Polys, rows: &Polys) -> Result<Polys, AllocError>
     requires held { length held.now ≡ 1 }
     requires one_row { length rows.now ≡ 1 }
-    requires left { All (IsPoly ring.now.params.q ring.now.params.n) held.now }
-    requires right { All (IsPoly ring.now.params.q ring.now.params.n) rows.now }
+    requires left { All (Fits ring.now) held.now }
+    requires right { All (Fits ring.now) rows.now }
     ensures value { IfOk result (λ sums. sums
         ≡ rows_sum ring.now.params.q ring.now.params.n held.now rows.now) }
     ensures one_row { IfOk result (λ sums. length sums ≡ 1) }
-    ensures fits { IfOk result (λ sums. All (IsPoly ring.now.params.q ring.now.params.n) sums) }
+    ensures fits { IfOk result (λ sums. All (Fits ring.now) sums) }
 {
     let mut row = copied(alloc, ring, held.at(0))?;
     add_into(ring, &mut row, rows.at(0));

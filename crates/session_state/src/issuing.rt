@@ -2,7 +2,7 @@
 //! changed, and then carried out.
 ghost use Rattle.std.specs.Prelude.{◌≡◌, ◌≤◌, ℕ, ◌+◌, ◌^◌, true, false, [], ◌++◌, map, length, slice_index_or, is_some, option_copied, All, IfOk, Some, None};
 ghost use Rattle.std.specs.List.{range_with_len, fold};
-ghost use Rattle.ring_spec.specs.Ring.{IsPoly};
+ghost use Rattle.mod_ring.specs.Fits.{Fits};
 ghost use Rattle.proto_names.specs.declared.signature.Signature.TheVariants.{Rlk1, Dec};
 ghost use Rattle.instance_table.specs.Tables.{no_sums};
 ghost use Rattle.instance_table.specs.Spare.{spare};
@@ -36,7 +36,7 @@ pub(crate) struct Issuing {
 
 /// A copy of a polynomial.
 fn copied(alloc: Global, ring: &Ring, f: &Poly) -> Result<Poly, AllocError>
-    requires { IsPoly ring.now.params.q ring.now.params.n f.now }
+    requires { Fits ring.now f.now }
     ensures { IfOk result (λ copy. copy ≡ f.now) }
 {
     Ok(of_residues(ring.params(), Vec::from_slice(alloc, f.coeffs())?))

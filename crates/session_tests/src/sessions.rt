@@ -1,7 +1,7 @@
 //! Calls that a run never shows, at n = 8 and q = 31525197391593473: a session of three parties, any two of whom
 //! act, with one circuit that adds an input of party 1 and one of party 2. Nothing is told of seeds.
 ghost use Rattle.std.specs.Prelude.{◌≡◌, ◌^◌, ◌<◌, ◌≤◌, length, All, IfOk, IfSome};
-ghost use Rattle.ring_spec.specs.Ring.{IsPoly};
+ghost use Rattle.mod_ring.specs.Fits.{Fits};
 
 use crate::common::{one_sum, zeros};
 use mod_ring::{Poly, Polys, Ring, of_signed};
@@ -70,7 +70,7 @@ fn open(alloc: Global, max_calls: u32) -> Result<Option<Session<NoRoll>>, AllocE
 /// A constant.
 fn constant_of(alloc: Global, ring: &Ring, constant: i64) -> Result<Poly, AllocError>
     requires { ring.now.params.n ≡ 8 }
-    ensures { IfOk result (λ f. IsPoly ring.now.params.q ring.now.params.n f) }
+    ensures { IfOk result (λ f. Fits ring.now f) }
 {
     of_signed(alloc, ring, &[constant, 0, 0, 0, 0, 0, 0, 0])
 }
@@ -78,7 +78,7 @@ fn constant_of(alloc: Global, ring: &Ring, constant: i64) -> Result<Poly, AllocE
 /// One row, or two: each a constant.
 fn constants(alloc: Global, ring: &Ring, rows: u32, constant: i64) -> Result<Polys, AllocError>
     requires { ring.now.params.n ≡ 8 }
-    ensures fits { IfOk result (λ list. All (IsPoly ring.now.params.q ring.now.params.n) list) }
+    ensures fits { IfOk result (λ list. All (Fits ring.now) list) }
     ensures few { IfOk result (λ list. length list ≤ 2) }
 {
     let mut list = Polys::new(alloc);

@@ -1,5 +1,6 @@
 ghost use Rattle.std.specs.Prelude.{◌≡◌, ℕ, ◌<◌, ◌≤◌, All, List, [], length, IfOk, slice_index_or};
-ghost use Rattle.ring_spec.specs.Ring.{IsPoly, ring_sum};
+ghost use Rattle.mod_ring.specs.Fits.{Fits};
+ghost use Rattle.ring_spec.specs.Ring.{ring_sum};
 ghost use Rattle.share_spec.specs.Dealing.{dealing, value_at};
 
 use crate::values::{add_each, horner};
@@ -33,7 +34,7 @@ impl Dealing {
         ensures value { IfOk result (λ d. d
             ≡ dealing ring.now.params.q ring.now.params.n ring.now.params.threshold seed) }
         ensures number { IfOk result (λ d. length d ≡ ring.now.params.threshold) }
-        ensures fits { IfOk result (λ d. All (IsPoly ring.now.params.q ring.now.params.n) d) }
+        ensures fits { IfOk result (λ d. All (Fits ring.now) d) }
     {
         let mut tape = Tape::new(seed, STREAM);
         let mut coefficients = Vec::new(alloc);
@@ -55,11 +56,11 @@ impl Dealing {
     /// What the party deals to a point from 1 to N: f_0 + f_1 * point + f_2 * point^2 + ..
     #[tactic(auto, using(crate::proofs::Horner::one_by_one))]
     pub fn at(&self, alloc: Global, ring: &Ring, point: u32) -> Result<Poly, AllocError>
-        requires coefficients { All (IsPoly ring.now.params.q ring.now.params.n) self.now }
+        requires coefficients { All (Fits ring.now) self.now }
         requires some_party { 1 ≤ point }
         requires of_all { point ≤ ring.now.params.parties }
         ensures value { IfOk result (λ f. f ≡ value_at ring.now.params.q ring.now.params.n self.now point) }
-        ensures fits { IfOk result (λ f. IsPoly ring.now.params.q ring.now.params.n f) }
+        ensures fits { IfOk result (λ f. Fits ring.now f) }
     {
         let params = ring.params();
         let modulus = Modulus::new(params.q());
@@ -81,14 +82,14 @@ impl Dealing {
     /// both.
     pub fn add(&mut self, ring: &Ring, other: &Dealing)
         requires number { length other.now ≡ length self.old }
-        requires left { All (IsPoly ring.now.params.q ring.now.params.n) self.old }
-        requires right { All (IsPoly ring.now.params.q ring.now.params.n) other.now }
+        requires left { All (Fits ring.now) self.old }
+        requires right { All (Fits ring.now) other.now }
         ensures values { (p : ℕ) → value_at ring.now.params.q ring.now.params.n self.new p
             ≡ ring_sum ring.now.params.q ring.now.params.n
                 (value_at ring.now.params.q ring.now.params.n self.old p)
                 (value_at ring.now.params.q ring.now.params.n other.now p) }
         ensures number { length self.new ≡ length self.old }
-        ensures fits { All (IsPoly ring.now.params.q ring.now.params.n) self.new }
+        ensures fits { All (Fits ring.now) self.new }
     {
         add_each(
             ring,

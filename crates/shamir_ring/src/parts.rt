@@ -1,5 +1,6 @@
 ghost use Rattle.std.specs.Prelude.{◌≡◌, ℕ, ◌≤◌, All, List, length, IfOk};
-ghost use Rattle.ring_spec.specs.Ring.{IsPoly, ring_multiple, size};
+ghost use Rattle.mod_ring.specs.Fits.{Fits};
+ghost use Rattle.ring_spec.specs.Ring.{ring_multiple, size};
 ghost use Rattle.ring_spec.specs.Aggregate.{ring_total};
 ghost use Rattle.share_spec.specs.Sets.{count};
 ghost use Rattle.share_spec.specs.Lagrange.{lagrange as coefficient_of};
@@ -13,9 +14,9 @@ use std::alloc::{AllocError, Global};
 /// The sum of what was dealt, in any order.
 #[tactic(auto, using(crate::proofs::Sums::one_by_one))]
 pub fn combine(alloc: Global, ring: &Ring, dealt: &[Poly]) -> Result<Poly, AllocError>
-    requires { All (IsPoly ring.now.params.q ring.now.params.n) dealt.now }
+    requires { All (Fits ring.now) dealt.now }
     ensures value { IfOk result (λ f. f ≡ ring_total ring.now.params.q ring.now.params.n dealt.now) }
-    ensures fits { IfOk result (λ f. IsPoly ring.now.params.q ring.now.params.n f) }
+    ensures fits { IfOk result (λ f. Fits ring.now f) }
 {
     let mut sum = zero(alloc, ring)?;
     for f in dealt {
@@ -33,9 +34,9 @@ pub fn additive(
     set: PartySet,
     j: u32,
 ) -> Result<Poly, AllocError>
-    requires { IsPoly ring.now.params.q ring.now.params.n share.now }
+    requires { Fits ring.now share.now }
     ensures value { IfOk result (λ f. f ≡ ring_multiple ring.now.params.q ring.now.params.n (coefficient_of ring.now.params.q set.bits j) share.now) }
-    ensures fits { IfOk result (λ f. IsPoly ring.now.params.q ring.now.params.n f) }
+    ensures fits { IfOk result (λ f. Fits ring.now f) }
 {
     let mut part = zero(alloc, ring)?;
     add_into(ring, &mut part, share);
@@ -46,7 +47,7 @@ pub fn additive(
 /// The secret, from the parts of as many parties as the threshold, whoever dealt it and for whichever
 /// threshold.
 pub fn reconstruct(alloc: Global, ring: &Ring, parts: &[Poly]) -> Result<Poly, AllocError>
-    requires { All (IsPoly ring.now.params.q ring.now.params.n) parts.now }
+    requires { All (Fits ring.now) parts.now }
     ensures value { IfOk result (λ f. f ≡ ring_total ring.now.params.q ring.now.params.n parts.now) }
     ensures secret { (t : ℕ) → (seed : ℕ → List ℕ) → (dealers : List ℕ) → (set : ℕ) → 1 ≤ t → t ≤ count set
         → parts.now ≡ parts_of ring.now.params.q ring.now.params.n t seed dealers set

@@ -1,4 +1,5 @@
 ghost use Rattle.std.specs.Prelude.{◌≡◌, ℕ, ◌+◌, ◌*◌, ◌%◌, ◌^◌, ◌<◌, ◌≤◌, [], length, get_or, All};
+ghost use Rattle.mod_ring.specs.Fits.{Fits};
 ghost use Rattle.ring_spec.specs.Ring.{IsPoly, ring_sum, ring_multiple};
 
 use mod_ring::{Poly, Ring, add_into};
@@ -32,8 +33,8 @@ pub(crate) fn horner(modulus: &Modulus, value: &mut [u64], point: u64, f: &[u64]
 /// Adds each polynomial of a list to that at the same place of another.
 pub(crate) fn add_each(ring: &Ring, sums: &mut [Poly], others: &[Poly])
     requires number { length others.now ≡ length sums.old }
-    requires left { All (IsPoly ring.now.params.q ring.now.params.n) sums.old }
-    requires right { All (IsPoly ring.now.params.q ring.now.params.n) others.now }
+    requires left { All (Fits ring.now) sums.old }
+    requires right { All (Fits ring.now) others.now }
     ensures number { length sums.new ≡ length sums.old }
     ensures each { (k : ℕ) → k < length sums.old → get_or sums.new k []
         ≡ ring_sum ring.now.params.q ring.now.params.n (get_or sums.old k []) (get_or others.now k []) }
