@@ -29,6 +29,7 @@ params_of numbers h = record {
   q = numbers.q;
   t = numbers.t;
   digit_bits = numbers.digit_bits;
+  balanced = numbers.balanced;
   err = numbers.err;
   flood = numbers.flood;
   parties = numbers.parties;

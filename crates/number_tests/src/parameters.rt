@@ -1,7 +1,7 @@
 //! Each call once, the parameters against numbers worked out by hand.
 ghost use Rattle.std.specs.Prelude.{◌≡◌, length, IfOk};
 
-use param_set::{Field, ParamFault, Params, Plain, Plains, RawParams};
+use param_set::{Field, Ids, ParamFault, Params, Plain, Plains, RawParams, Slots};
 use std::alloc::{AllocError, Global};
 use std::test::Fail;
 
@@ -19,7 +19,13 @@ const FRAME: RawParams = RawParams {
 
 #[test]
 fn reads_the_frame(rt: HostRuntime) -> Result<(), Fail> {
-    for params in [Params::frame(3, 2), Params::check(&FRAME)?] {
+    for (balanced, params) in [
+        (false, Params::frame(3, 2)),
+        (false, Params::check(&FRAME)?),
+        (true, Params::frame(3, 2).balanced()),
+        (true, Params::check(&FRAME)?.balanced().balanced()),
+    ] {
+        assert_eq!(rt; params.is_balanced(), balanced);
         for (name, value, wanted) in [
             ("n", params.n(), 8),
             ("q", params.q(), 31_525_197_391_593_473),
@@ -221,6 +227,20 @@ fn is_three_and_five(plain: &Plain) -> bool {
 }
 
 #[test]
+fn gives_lists_back(rt: HostRuntime) -> Result<(), Fail> {
+    let alloc = rt.alloc();
+    let numbers = Ids::from_vec(vec![in alloc; 4, 9]?);
+    assert_eq!(rt; numbers.get(1), Some(9));
+    assert_eq!(rt; numbers.into_vec().as_slice(), [4, 9].as_slice());
+    let places = Slots::from_vec(vec![in alloc; (0, 3)]?);
+    assert_eq!(rt; places.get(0), Some((0, 3)));
+    assert_eq!(rt; places.into_vec().as_slice(), [(0, 3)].as_slice());
+    let plain = three_and_five(alloc)?;
+    assert_eq!(rt; plain.into_vec().as_slice(), [3, 5].as_slice());
+    Ok(())
+}
+
+#[test]
 fn keeps_plaintexts(rt: HostRuntime) -> Result<(), Fail> {
     assert!(rt; Plain::new(rt.alloc()).is_empty());
     assert!(rt; is_three_and_five(&three_and_five(rt.alloc())?));
@@ -243,5 +263,10 @@ fn keeps_lists_of_plaintexts(rt: HostRuntime) -> Result<(), Fail> {
     let plains = two_plaintexts(rt.alloc())?;
     assert_eq!(rt; plains.len(), 2);
     assert_eq!(rt; plains.at(1).coeffs(), [7].as_slice());
+    assert!(rt; plains.get(2).is_none());
+    assert!(rt; plains.get(0).is_some_and(|plain| is_three_and_five(plain)));
+    let back = Plains::from_vec(plains.into_vec());
+    assert_eq!(rt; back.as_slice().len(), 2);
+    assert_eq!(rt; back.at(1).coeffs(), [7].as_slice());
     Ok(())
 }

@@ -4,7 +4,7 @@ use edge_io::{MemSink, MemSource, ReadStop, read_all};
 use helper_main::{Status, Work, run_words};
 use std::alloc::{AllocError, Global};
 use std::test::Fail;
-use text_tests::{AT_LIMIT, ONE, PAST_LIMIT, THREE, script};
+use text_tests::{AT_LIMIT, ONE, PAST_LIMIT, THREE, script, script_in};
 
 const SUM: &str = "circuit c\ninput 1 3 0 1\ninput 2 5\nadd 0 1\nend\n";
 
@@ -311,6 +311,27 @@ fn checks_circuits(rt: HostRuntime) -> Result<(), Fail> {
         let script = (params, "", circuits);
         let so = answers_script(alloc, Work::Check, script, Status::Done, text)?;
         assert!(rt; so, "{text}");
+    }
+    Ok(())
+}
+
+/// What the program writes for a run of a script, which it ends well.
+fn report_of(alloc: Global, script: &str) -> Result<Option<Vec<u8>>, AllocError> {
+    let mut source = source_of(alloc, script.as_bytes(), &[])?;
+    let mut sink = sink_of(alloc, &[])?;
+    let ended = run(alloc, Work::Run, &mut source, &mut sink)?;
+    Ok((ended == Status::Done).then_some(Vec::from_slice(alloc, sink.bytes())?))
+}
+
+/// Where no key switches both versions run alike.
+#[test]
+fn runs_both_versions_alike(rt: HostRuntime) -> Result<(), Fail> {
+    let alloc = rt.alloc();
+    for circuits in [SUM, MULTIPLE, SEVERAL] {
+        let first = report_of(alloc, script(alloc, THREE, "1 2 3", circuits)?.as_str())?;
+        let balanced = script_in(alloc, "helium 2", THREE, "1 2 3", circuits)?;
+        let second = report_of(alloc, balanced.as_str())?;
+        assert!(rt; first.is_some() && first == second, "{circuits}");
     }
     Ok(())
 }

@@ -12,7 +12,7 @@ use run_report::{
 use session_script::{Reason, Script, ScriptStop};
 use std::alloc::{AllocError, Global};
 use std::test::Fail;
-use text_tests::{THREE, read, script};
+use text_tests::{THREE, read, script, script_in};
 
 // The coefficients of c0 and c1, of which a negative one stands for its residue.
 const FIRST: [i64; 8] = [1, 2, 256, 65535, -1, 0, 0, 0];
@@ -159,6 +159,41 @@ fn checked_circuits(rt: HostRuntime) -> Result<(), Fail> {
     ];
     for (circuits, lines) in table {
         assert!(rt; is_checked(rt.alloc(), circuits, lines)?, "{lines}");
+    }
+    Ok(())
+}
+
+// What is told of a check of such a script in version 2.
+fn checked_balanced(alloc: Global, params: &str, circuits: &str) -> Result<Vec<u8>, ScriptStop> {
+    let text = script_in(alloc, "helium 2", params, "", circuits)?;
+    let script = read(alloc, text.as_str())?;
+    Ok(check_text(alloc, &script)?)
+}
+
+#[test]
+fn checked_with_balanced_digits(rt: HostRuntime) -> Result<(), Fail> {
+    let product = "circuit c\ninput 1 3 0 1\ninput 2 5\nmul 0 1\nend\n";
+    let rotation = "circuit c\ninput 1 0 0 0 1\nrot 3 0\nend\n";
+    for (params, circuits, lines) in [
+        (
+            THREE,
+            product,
+            "node 0 41\nnode 1 41\nnode 2 752717\noutput 752719\nplain 15 0 5\n",
+        ),
+        (
+            THREE,
+            rotation,
+            "node 0 41\nnode 1 14378\noutput 14380\nplain 0 15\n",
+        ),
+        (
+            WIDE,
+            product,
+            "node 0 40968\nnode 1 40968\nnode 2 2139915089409\noutput 2139917186561\nplain 15 0 5\n",
+        ),
+    ] {
+        let text = checked_balanced(rt.alloc(), params, circuits)?;
+        let want = format!(in rt.alloc(); "limit 985162418487295\ncircuit c\n{lines}")?;
+        assert_eq!(rt; text.as_slice(), want.as_bytes());
     }
     Ok(())
 }

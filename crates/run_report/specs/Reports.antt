@@ -29,6 +29,7 @@ bounding a = record {
   q = a.numbers.q;
   t = a.numbers.t;
   digit_bits = a.numbers.digit_bits;
+  balanced = a.numbers.balanced;
   err = a.numbers.err;
   flood = a.numbers.flood;
   parties = a.numbers.parties;

@@ -101,7 +101,7 @@ owns_no_input o = true≢false (sym o.there ∙ second_is_none)
 
 -- of a circuit that is refused there is no input that counts: its bound of 15 is above the limit of 11
 abbrev pub refused : Setting
-refused = record { numbers = record { n = 2; q = 97; t = 4; digit_bits = 3; err = 1; flood = 2; parties = 3; threshold = 2 }; public = 9 ∷ []; offers = record { nodes = Input 3 ∷ []; values = None } ∷ [] }
+refused = record { numbers = record { n = 2; q = 97; t = 4; digit_bits = 3; balanced = false; err = 1; flood = 2; parties = 3; threshold = 2 }; public = 9 ∷ []; offers = record { nodes = Input 3 ∷ []; values = None } ∷ [] }
 
 pub refused_is_none : is_input (rules refused) 0 0 ≡ false
 unfolding is_input rules plans
@@ -180,6 +180,7 @@ louder = record {
   q = 31525197391593473;
   t = 16;
   digit_bits = 8;
+  balanced = false;
   err = 1;
   flood = 2;
   parties = 3;

@@ -1,5 +1,5 @@
 -- The texts of a report and of a check: for short scripts, the lines of refused ones, and the lines that hold no digest.
-use Rattle.std.proofs.Common.{◌≡◌, ℕ, List, [], ◌∷◌, replicate, codes, Some, refl}
+use Rattle.std.proofs.Common.{◌≡◌, ℕ, false, List, [], ◌∷◌, replicate, codes, Some, refl}
 use Rattle.std.specs.Fmt.{digits}
 use Rattle.ring_spec.specs.Ring.{residue, residues, ring_sum}
 use Rattle.circuit_form.specs.declared.node.Node.TheVariants.{Input, Const, Add, Mul}
@@ -69,7 +69,7 @@ states = (refl, refl, refl, refl, refl, refl)
 -- ---- scripts
 
 abbrev pub numbers : Numbers
-numbers = record { n = 8; q = 31525197391593473; t = 16; digit_bits = 8; err = 1; flood = 1; parties = 3; threshold = 2; psi = 1791537114801093 }
+numbers = record { n = 8; q = 31525197391593473; t = 16; digit_bits = 8; balanced = false; err = 1; flood = 1; parties = 3; threshold = 2; psi = 1791537114801093 }
 
 -- a script with these circuits and nobody present
 abbrev pub about : List Named → Asked
@@ -90,12 +90,12 @@ loud = record { name = codes "d"; nodes = Input 1 ∷ Mul 0 0 ∷ Mul 1 1 ∷ Mu
 
 -- one party, and a constant that is refused: the flood of its decryption is too large by one
 abbrev flood_numbers : Numbers
-flood_numbers = record { n = 8; q = 31525197391593473; t = 65537; digit_bits = 8; err = 1; flood = 240514433191; parties = 1; threshold = 1; psi = 1791537114801093 }
+flood_numbers = record { n = 8; q = 31525197391593473; t = 65537; digit_bits = 8; balanced = false; err = 1; flood = 240514433191; parties = 1; threshold = 1; psi = 1791537114801093 }
 
 abbrev pub flooded_one : Asked
 flooded_one = record (about (record { name = codes "k"; nodes = Const (7 ∷ []) ∷ []; values = [] } ∷ [])) { numbers = flood_numbers; present = 1 ∷ [] }
 
-pub numbers_are : bounding (about []) ≡ record { n = 8; q = 31525197391593473; t = 16; digit_bits = 8; err = 1; flood = 1; parties = 3; threshold = 2 }
+pub numbers_are : bounding (about []) ≡ record { n = 8; q = 31525197391593473; t = 16; digit_bits = 8; balanced = false; err = 1; flood = 1; parties = 3; threshold = 2 }
 numbers_are = refl
 
 pub offer_is : offered sum ≡ record { nodes = Input 1 ∷ Input 2 ∷ Add 0 1 ∷ []; values = Some (three ∷ five ∷ []) }

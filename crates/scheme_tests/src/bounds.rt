@@ -1,7 +1,9 @@
 //! Bounds at n = 8, t = 16 and small draws within 1 against numbers worked out apart.
+ghost use Rattle.std.specs.Prelude.{◌≤◌};
+
 use circuit_form::{Circuit, Node, Plain};
 use noise_ledger::{
-    Over, Place, admit, const_bound, input_bound, mul_bound, neg_bound, output_bound,
+    Over, Place, admit, admit_for, const_bound, input_bound, mul_bound, neg_bound, output_bound,
     plain_mul_bound, rot_bound, sum_bound,
 };
 use param_set::Params;
@@ -103,6 +105,20 @@ fn gives_the_rows(rt: HostRuntime) -> Result<(), Fail> {
     Ok(())
 }
 
+#[test]
+fn gives_the_rows_of_balanced_digits(rt: HostRuntime) {
+    let params = Params::frame(3, 2).balanced();
+    for (name, value, wanted) in [
+        ("input", input_bound(&params), 41),
+        ("sum", sum_bound(&params, 41, 41), 83),
+        ("rotation", rot_bound(&params, 41), 14_378),
+        ("product", mul_bound(&params, 41, 41), 752_717),
+        ("output", output_bound(&params, 83), 85),
+    ] {
+        assert_eq!(rt; value, wanted, "{name}");
+    }
+}
+
 /// Whether a node behind inputs of the parties 1 and 2 gives these bounds of the three, and this of the output.
 fn bounds_behind_inputs(
     alloc: Global,
@@ -160,6 +176,83 @@ fn admits_products_and_rotations(rt: HostRuntime) -> Result<(), Fail> {
         28_604,
     )?;
     assert!(rt; rotation, "rotation");
+    Ok(())
+}
+
+#[test]
+fn admits_with_balanced_digits(rt: HostRuntime) -> Result<(), Fail> {
+    let alloc = rt.alloc();
+    let params = Params::frame(3, 2).balanced();
+    let product = bounds_behind_inputs(
+        alloc,
+        &params,
+        Node::Mul { left: 0, right: 1 },
+        [41, 41, 752_717],
+        752_719,
+    )?;
+    assert!(rt; product, "product");
+    let rotation = bounds_behind_inputs(
+        alloc,
+        &params,
+        Node::Rot { g: 3, of: 0 },
+        [41, 41, 14_378],
+        14_380,
+    )?;
+    assert!(rt; rotation, "rotation");
+    Ok(())
+}
+
+/// Whether a node behind inputs of the parties 1 and 2 gives these bounds of the three, and this of the output, where
+/// so many of three parties act together.
+fn bounds_for(
+    alloc: Global,
+    threshold: u64,
+    last: Node,
+    bounds: [u128; 3],
+    output: u128,
+) -> Result<bool, AllocError>
+    requires some { 1 ≤ threshold }
+    requires few { threshold ≤ 32 }
+{
+    let params = Params::frame(3, 2);
+    let nodes = vec![in alloc; Node::Input { owner: 1 }, Node::Input { owner: 2 }, last]?;
+    match Circuit::new(&params, nodes) {
+        Err(_) => Ok(false),
+        Ok(circuit) => {
+            let mut given = vec![in alloc; UNTOUCHED; circuit.len() as usize]?;
+            let answer = admit_for(&params, threshold, &circuit, given.as_mut_slice());
+            Ok(answer == Ok(output) && given.as_slice() == bounds.as_slice())
+        }
+    }
+}
+
+#[test]
+fn admits_for_another_threshold(rt: HostRuntime) -> Result<(), Fail> {
+    let alloc = rt.alloc();
+    let sum = bounds_for(
+        alloc,
+        5,
+        Node::Add { left: 0, right: 1 },
+        [65, 65, 131],
+        136,
+    )?;
+    assert!(rt; sum, "five of whom three hold the secret");
+    let product = bounds_for(
+        alloc,
+        5,
+        Node::Mul { left: 0, right: 1 },
+        [65, 65, 4_949_021],
+        4_949_026,
+    )?;
+    assert!(rt; product, "a product");
+    let own = bounds_for(
+        alloc,
+        2,
+        Node::Mul { left: 0, right: 1 },
+        [41, 41, 1_350_125],
+        1_350_127,
+    )?;
+    assert!(rt; own, "the parameters' own");
     Ok(())
 }
 

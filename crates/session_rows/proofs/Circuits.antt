@@ -1,6 +1,6 @@
 -- What a session has to know of its circuits: in the ring of 8 coefficients modulo 31525197391593473 with
 -- plaintexts modulo 16 or 65537, and in that of 1024 coefficients.
-use Rattle.std.proofs.Common.{◌≡◌, [], ◌∷◌, refl}
+use Rattle.std.proofs.Common.{◌≡◌, false, [], ◌∷◌, refl}
 use Rattle.circuit_form.specs.declared.node.Node.TheVariants.{Input, Const, Add, Mul, Rot}
 use Rattle.param_set.specs.Numbers.{Numbers}
 use Rattle.session_rules.specs.Fixing.{fixed_of}
@@ -8,13 +8,13 @@ use Rattle.session_rows.proofs.Words.{sum_of, product_of, constant, turned_by, a
 use Rattle.session_rows.proofs.Computed.{plans}
 
 abbrev frame : Numbers
-frame = record { n = 8; q = 31525197391593473; t = 16; digit_bits = 8; err = 1; flood = 1; parties = 3; threshold = 2 }
+frame = record { n = 8; q = 31525197391593473; t = 16; digit_bits = 8; balanced = false; err = 1; flood = 1; parties = 3; threshold = 2 }
 
 abbrev larger : Numbers
-larger = record { n = 1024; q = 31525197391593473; t = 16; digit_bits = 8; err = 8; flood = 1048576; parties = 3; threshold = 2 }
+larger = record { n = 1024; q = 31525197391593473; t = 16; digit_bits = 8; balanced = false; err = 8; flood = 1048576; parties = 3; threshold = 2 }
 
 abbrev flooding : Numbers
-flooding = record { n = 8; q = 31525197391593473; t = 65537; digit_bits = 8; err = 1; flood = 240514433191; parties = 1; threshold = 1 }
+flooding = record { n = 8; q = 31525197391593473; t = 65537; digit_bits = 8; balanced = false; err = 1; flood = 240514433191; parties = 1; threshold = 1 }
 
 -- a sum
 pub sum : fixed_of frame ((Input 1 ∷ Input 2 ∷ Add 0 1 ∷ []) ∷ []) ≡ any_two (sum_of (1 ∷ 2 ∷ []))

@@ -1,5 +1,5 @@
 -- A worked instance: what a whole script of three parties asks for, by computation.
-use Rattle.std.proofs.Common.{◌≡◌, ℕ, zero, suc, ◌+◌, ◌-◌, ◌*◌, ◌/◌, ◌%◌, ◌^◌, List, [], ◌∷◌, ◌++◌, replicate, codes, flat_map, Ok, None, refl, sym, ap, ◌∙◌, arith}
+use Rattle.std.proofs.Common.{◌≡◌, ℕ, zero, suc, ◌+◌, ◌-◌, ◌*◌, ◌/◌, ◌%◌, ◌^◌, ◌==◌, Bool, true, false, List, [], ◌∷◌, ◌++◌, replicate, codes, flat_map, Ok, None, refl, sym, ap, ◌∙◌, arith}
 use lib.Count.{ones}
 use Rattle.std.proofs.Math.Nat.{pow-suc}
 use Rattle.hex.proofs.OnLiterals.{hex_on_literals}
@@ -81,18 +81,19 @@ behind =
     ∷ codes "done"
     ∷ []
 
-abbrev all : List (List ℕ)
-all = codes "helium 1" ∷ codes "params 8 31525197391593473 16 3 8 1 1 3 2" ∷ behind
+abbrev all : List ℕ → List (List ℕ)
+all first = first ∷ codes "params 8 31525197391593473 16 3 8 1 1 3 2" ∷ behind
 
 -- ---- what it asks for
 
-abbrev numbers : Numbers
-numbers = record { n = 8; q = 31525197391593473; t = 16; digit_bits = 8; err = 1; flood = 1; parties = 3; threshold = 2; psi = 1791537114801093 }
+-- in the two versions alike but for the digits
+abbrev numbers : Bool → Numbers
+numbers balanced = record { n = 8; q = 31525197391593473; t = 16; digit_bits = 8; balanced = balanced; err = 1; flood = 1; parties = 3; threshold = 2; psi = 1791537114801093 }
 
-abbrev wanted : Asked
-wanted = record {
-  version = 1;
-  numbers = numbers;
+abbrev wanted : ℕ → Bool → Asked
+wanted version balanced = record {
+  version = version;
+  numbers = numbers balanced;
   master = replicate 32 0;
   present = 1 ∷ 2 ∷ 3 ∷ [];
   circuits = record {
@@ -108,46 +109,59 @@ kept : first_bad given ≡ None
 unfolding first_bad is_degree is_modulus indivisible ones
 kept = refl
 
-judged-given : judged given None ≡ Ok numbers
+judged-given : (version : ℕ) → judged version given None ≡ Ok (numbers (version == 2))
 unfolding judged
-judged-given = rw (power, root) refl
+judged-given version = rw (power, root) refl
 
 -- the words of the line
 params-given : given_params params_words ≡ Ok given
 unfolding given_params number digits_behind
 params-given = refl
 
-params-read : params_statement params_words ≡ Ok (place.Measured numbers)
+params-read : (version : ℕ) → params_statement version params_words ≡ Ok (place.Measured version (numbers (version == 2)))
 unfolding params_statement
-params-read = rw (params-given, kept, judged-given) refl
+params-read version = rw (params-given, kept, judged-given version) refl
 
 params-words : words (codes "params 8 31525197391593473 16 3 8 1 1 3 2") ≡ params_words
 unfolding words parts_at
 params-words = refl
 
-measured : after_line place.Versioned (codes "params 8 31525197391593473 16 3 8 1 1 3 2") ≡ Ok (place.Measured numbers)
+measured : (version : ℕ) → after_line (place.Versioned version) (codes "params 8 31525197391593473 16 3 8 1 1 3 2") ≡ Ok (place.Measured version (numbers (version == 2)))
 unfolding after_line spoken statement is_skipped
-measured = rw (params-words, params-read) refl
+measured version = rw (params-words, params-read version) refl
 
 -- the lines before the parameters, and those behind them
-begins : read_from place.Start 1 all ≡ read_from place.Versioned 2 (codes "params 8 31525197391593473 16 3 8 1 1 3 2" ∷ behind)
+begins : read_from place.Start 1 (all (codes "helium 1")) ≡ read_from (place.Versioned 1) 2 (codes "params 8 31525197391593473 16 3 8 1 1 3 2" ∷ behind)
 unfolding read_from after_line spoken statement is_skipped words parts_at version_statement number digits_behind
 begins = refl
+
+begins-balanced : read_from place.Start 1 (all (codes "helium 2")) ≡ read_from (place.Versioned 2) 2 (codes "params 8 31525197391593473 16 3 8 1 1 3 2" ∷ behind)
+unfolding read_from after_line spoken statement is_skipped words parts_at version_statement number digits_behind
+begins-balanced = refl
 
 -- a line that is read leaves the others
 step : (at next : Place) (n : ℕ) (line : List ℕ) (rest : List (List ℕ)) → after_line at line ≡ Ok next → read_from at n (line ∷ rest) ≡ read_from next (n + 1) rest
 unfolding read_from
 step at next n line rest e = rw e refl
 
-ends : read_from (place.Measured numbers) 3 behind ≡ Ok wanted
+ends : (version : ℕ) (balanced : Bool) → read_from (place.Measured version (numbers balanced)) 3 behind ≡ Ok (wanted version balanced)
 unfolding hex_on_literals parts_at number digits_behind numbers_behind words is_skipped seed_statement present_statement rising is_name circuit_statement plain input_statement operands other_node circuit_end in_circuit done_statement between_lanes between_circuits statement spoken after_line first_fault first_wrong may_stand ended read_from
-ends = refl
+ends version balanced = refl
 
-cut : lines (text_of all) ≡ all
+cut : lines (text_of (all (codes "helium 1"))) ≡ all (codes "helium 1")
 unfolding lines without_end parts_at text_of
 cut = refl
 
+cut-balanced : lines (text_of (all (codes "helium 2"))) ≡ all (codes "helium 2")
+unfolding lines without_end parts_at text_of
+cut-balanced = refl
+
 -- three parties of whom two act, all present, add two inputs
-sum_of_two : script (text_of all) ≡ Ok wanted
+sum_of_two : script (text_of (all (codes "helium 1"))) ≡ Ok (wanted 1 false)
 unfolding script
-sum_of_two = ap (read_from place.Start 1) cut ∙ begins ∙ step _ _ _ _ _ measured ∙ ends
+sum_of_two = ap (read_from place.Start 1) cut ∙ begins ∙ step _ _ _ _ _ (measured 1) ∙ ends 1 false
+
+-- the same with balanced digits
+sum_balanced : script (text_of (all (codes "helium 2"))) ≡ Ok (wanted 2 true)
+unfolding script
+sum_balanced = ap (read_from place.Start 1) cut-balanced ∙ begins-balanced ∙ step _ _ _ _ _ (measured 2) ∙ ends 2 true

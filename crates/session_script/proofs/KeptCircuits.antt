@@ -99,7 +99,7 @@ party-known numbers p = chosen (λ owner. (nat_le 1 owner && nat_le owner number
 one-input : (draft : Draft) (begun : OpenCircuit) (owner : ℕ) → IsDrafted draft (length (owners begun.nodes)) → draft.inputs < 1024 → IsDrafted (record draft { inputs = draft.inputs + 1 }) (length (owners (begun.nodes ++ node.Input owner ∷ [])))
 unfolding owners
 one-input draft begun owner d room = record {
-  checked = d.checked;
+  head = d.head;
   parties = d.parties;
   rising = d.rising;
   few = d.few;
@@ -120,7 +120,7 @@ input-sound draft begun words o none =
     past Sound (numbers_behind [] (drop 2 words)) _ (λ coeffs spelled.
     past_test Sound (has_room begun && nat_lt draft.inputs 1024) reason.Limit _ (λ room.
     past_known (λ owner. (nat_le 1 owner && nat_le owner draft.frame.parties) ≡ true) Sound (party draft.frame p) _ (party-known draft.frame p) (λ owner is.
-    past_known (IsPoly draft.frame.t draft.frame.n) Sound (plain draft.frame coeffs) _ (plain-fits draft.frame coeffs (omega (arith, o.drafted.checked.plain_modulus.0))) (λ value fits.
+    past_known (IsPoly draft.frame.t draft.frame.n) Sound (plain draft.frame coeffs) _ (plain-fits draft.frame coeffs (omega (arith, o.drafted.head.checked.plain_modulus.0))) (λ value fits.
     let tests = both (has_room begun) (nat_lt draft.inputs 1024) room in
     let space = ltb-true (length begun.nodes) 256 tests.0 in (
       record {
@@ -137,7 +137,7 @@ input-sound draft begun words o none =
 no-input : (draft : Draft) (begun : OpenCircuit) (added : Node) → owners (added ∷ []) ≡ [] → IsDrafted draft (length (owners begun.nodes)) → IsDrafted draft (length (owners (begun.nodes ++ added ∷ [])))
 no-input draft begun added no_owner d =
     rw (owners-append begun.nodes added, no_owner) record {
-      checked = d.checked;
+      head = d.head;
       parties = d.parties;
       rising = d.rising;
       few = d.few;
@@ -153,7 +153,7 @@ no-input draft begun added no_owner d =
 -- a rotation more
 one-turn : (draft : Draft) (inputs_begun g : ℕ) → IsDrafted draft inputs_begun → may_turn draft g ≡ true → IsDrafted (record draft { turns = with_turn draft.turns g }) inputs_begun
 one-turn draft inputs_begun g d may = record {
-  checked = d.checked;
+  head = d.head;
   parties = d.parties;
   rising = d.rising;
   few = d.few;
@@ -288,7 +288,7 @@ end-sound draft begun words o none =
     let named : IsNamed draft.frame last = record { name = o.begins.name; rules = keeps; count = o.begins.count; values = o.begins.values } in
     let sized : IsSized last = (omega (arith, small.some), small.few) in (
       record {
-        checked = d.checked;
+        head = d.head;
         parties = d.parties;
         rising = d.rising;
         few = omega (arith, o.room, length-append draft.circuits (last ∷ []));
@@ -309,5 +309,5 @@ in-circuit-sound draft begun words o none =
     either Sound (leads (codes "end") words) _ _ (end-sound draft begun words o none)
     (either Sound (leads (codes "input") words) _ _ (input-sound draft begun words o none)
     (either Sound (leads (codes "rot") words) _ _ (rot-sound draft begun words o none)
-    (past_known (IsPlainly draft.frame begun) Sound (other_node draft begun words) _ (other-known draft begun words (omega (arith, o.drafted.checked.plain_modulus.0))) (λ added plainly.
+    (past_known (IsPlainly draft.frame begun) Sound (other_node draft begun words) _ (other-known draft begun words (omega (arith, o.drafted.head.checked.plain_modulus.0))) (λ added plainly.
     (other-open draft begun added o plainly, none)))))

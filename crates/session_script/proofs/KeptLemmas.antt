@@ -33,9 +33,9 @@ between-circuits-sound draft words d none =
 statement-sound : (at : Place) (words : List (List ℕ)) → Sound at → IfOk (statement at words) Sound
 unfolding statement Sound
 statement-sound place.Start words s = version-sound words
-statement-sound place.Versioned words s = params-sound words
-statement-sound (place.Measured numbers) words s = seed-sound numbers words s
-statement-sound (place.Seeded numbers master) words s = present-sound numbers master words s
+statement-sound (place.Versioned version) words s = params-sound version words s
+statement-sound (place.Measured version numbers) words s = seed-sound version numbers words s
+statement-sound (place.Seeded version numbers master) words s = present-sound version numbers master words s
 statement-sound (place.Circuits draft) words s = between-circuits-sound draft words s.0 s.1
 statement-sound (place.InCircuit draft begun) words s = in-circuit-sound draft begun words s.0 s.1
 statement-sound (place.Lanes draft) words s = between-lanes-sound draft words s.0 s.1
@@ -95,8 +95,9 @@ few-used n circuits used all =
 
 whole-accepted : (draft : Draft) → IsDrafted draft 0 → AreLanes draft.frame draft.lanes → IsAccepted (asked_by draft)
 whole-accepted draft d lanes = record {
-  version = refl;
-  numbers = d.checked;
+  version = d.head.known;
+  balanced = d.head.balanced;
+  numbers = d.head.checked;
   present = record { parties = d.parties; rising = d.rising };
   few = d.few;
   named = d.named;
@@ -110,9 +111,9 @@ whole-accepted draft d lanes = record {
 ended-accepted : (at : Place) (n : ℕ) → Sound at → IfOk (ended at n) IsAccepted
 unfolding ended Sound
 ended-accepted place.Start n s = tt
-ended-accepted place.Versioned n s = tt
-ended-accepted (place.Measured numbers) n s = tt
-ended-accepted (place.Seeded numbers master) n s = tt
+ended-accepted (place.Versioned version) n s = tt
+ended-accepted (place.Measured version numbers) n s = tt
+ended-accepted (place.Seeded version numbers master) n s = tt
 ended-accepted (place.Circuits draft) n s = tt
 ended-accepted (place.InCircuit draft begun) n s = tt
 ended-accepted (place.Lanes draft) n s = tt

@@ -1,5 +1,5 @@
 -- What is kept at each place of a script, as an invariant of the places.
-use Rattle.std.proofs.Common.{◌≡◌, ℕ, ◌+◌, ◌<◌, ◌≤◌, Bool, true, false, List, [], length, map, All}
+use Rattle.std.proofs.Common.{◌≡◌, ℕ, ◌+◌, ◌<◌, ◌≤◌, ◌==◌, Bool, true, false, List, [], length, map, All}
 use Rattle.std.specs.Prelude.{⊤}
 use Rattle.std.specs.List.{list_any, IsDistinct}
 use Rattle.std.specs.Str.{bytes_eq}
@@ -11,7 +11,7 @@ use Rattle.session_script.specs.declared.place.Place.{Place}
 use Rattle.session_script.specs.declared.place.Place.TheVariants as place
 use Rattle.session_script.specs.Asked.{Numbers, Named}
 use Rattle.session_script.specs.CircuitLines.{has_name, is_used}
-use Rattle.session_script.specs.Kept.{IsNamed, IsParty, Rising, AreChecked, IsSized, name_of, inputs, is_turned, IsLane, lines, AreLanes}
+use Rattle.session_script.specs.Kept.{IsVersion, IsNamed, IsParty, Rising, AreChecked, IsSized, name_of, inputs, is_turned, IsLane, lines, AreLanes}
 use Rattle.session_script.proofs.BegunCircuits.{IsBegun}
 
 -- the rotations in these nodes are used
@@ -22,9 +22,15 @@ AreUsed turns rotates = (g : ℕ) → rotates g ≡ true → is_used turns g ≡
 abbrev pub rotates : OpenCircuit → ℕ → Bool
 rotates begun g = has_rot g begun.nodes
 
--- of a script behind its head, where a circuit that isn't ended yet has some inputs
-pub record IsKept (numbers : Numbers) (present : List ℕ) (circuits : List Named) (inputs_so_far : ℕ) (turns : List ℕ) (inputs_begun : ℕ) : Type 0 where
+-- of the version and the numbers
+pub record IsHead (version : ℕ) (numbers : Numbers) : Type 0 where
+  pub known : IsVersion version
+  pub balanced : numbers.balanced ≡ (version == 2)
   pub checked : AreChecked numbers
+
+-- of a script behind its head, where a circuit that isn't ended yet has some inputs
+pub record IsKept (version : ℕ) (numbers : Numbers) (present : List ℕ) (circuits : List Named) (inputs_so_far : ℕ) (turns : List ℕ) (inputs_begun : ℕ) : Type 0 where
+  pub head : IsHead version numbers
   pub parties : All (IsParty numbers) present
   pub rising : Rising 0 present
   pub few : length circuits ≤ 64
@@ -37,7 +43,7 @@ pub record IsKept (numbers : Numbers) (present : List ℕ) (circuits : List Name
   pub used : AreUsed turns (is_turned circuits)
 
 abbrev pub IsDrafted : Draft → ℕ → Type 0
-IsDrafted draft inputs_begun = IsKept draft.frame draft.present draft.circuits draft.inputs draft.turns inputs_begun
+IsDrafted draft inputs_begun = IsKept draft.version draft.frame draft.present draft.circuits draft.inputs draft.turns inputs_begun
 
 -- of a circuit that isn't ended yet
 pub record IsOpen (draft : Draft) (begun : OpenCircuit) : Type 0 where
@@ -68,9 +74,9 @@ pub record IsOpenLane (numbers : Numbers) (lanes : List (List Line)) (lines_so_f
 -- of a place
 unfoldable pub Sound : Place → Type 0
 Sound place.Start = ⊤
-Sound place.Versioned = ⊤
-Sound (place.Measured numbers) = AreChecked numbers
-Sound (place.Seeded numbers master) = AreChecked numbers
+Sound (place.Versioned version) = IsVersion version
+Sound (place.Measured version numbers) = IsHead version numbers
+Sound (place.Seeded version numbers master) = IsHead version numbers
 Sound (place.Circuits draft) = IsDrafted draft 0 × HasNoLane draft.lanes draft.lines
 Sound (place.InCircuit draft begun) = IsOpen draft begun × HasNoLane draft.lanes draft.lines
 Sound (place.Lanes draft) = IsDrafted draft 0 × AreWritten draft.frame draft.lanes draft.lines 0

@@ -1,5 +1,5 @@
 -- Worked instances: what some texts and lines are refused for, by computation.
-use Rattle.std.proofs.Common.{◌≡◌, [], ◌∷◌, ◌++◌, codes, Ok, Err, refl}
+use Rattle.std.proofs.Common.{false, ◌≡◌, [], ◌∷◌, ◌++◌, codes, Ok, Err, refl}
 use Rattle.session_rules.specs.declared.line.Line.TheVariants as line
 use Rattle.circuit_form.specs.declared.node.Node.TheVariants as node
 use Rattle.circuit_form.specs.Circuits.{first_fault}
@@ -57,17 +57,17 @@ comment_first = refl
 
 -- n = 8, t = 16, three parties of whom two act, and no circuit or lane so far
 numbers : Numbers
-numbers = record { n = 8; q = 31525197391593473; t = 16; digit_bits = 8; err = 1; flood = 1; parties = 3; threshold = 2; psi = 1791537114801093 }
+numbers = record { n = 8; q = 31525197391593473; t = 16; digit_bits = 8; balanced = false; err = 1; flood = 1; parties = 3; threshold = 2; psi = 1791537114801093 }
 
 draft : Draft
-draft = opening numbers [] []
+draft = opening 1 numbers [] []
 
 -- a circuit of two inputs
 begun : OpenCircuit
 begun = record { name = codes "c"; nodes = node.Input 1 ∷ node.Input 2 ∷ []; values = [] }
 
 -- parties that fall
-falling : after_line (place.Seeded numbers []) (codes "present 2 1") ≡ Err reason.Party
+falling : after_line (place.Seeded 1 numbers []) (codes "present 2 1") ≡ Err reason.Party
 unfolding numbers draft begun parts_at number digits_behind numbers_behind words is_skipped seed_statement present_statement rising is_name circuit_statement plain input_statement const_node operands neg_node rot_statement other_node circuit_end in_circuit lane_statement lone_party hold_line lone_line lane_line lane_end in_lane workers_statement done_statement between_lanes between_circuits statement spoken after_line first_fault
 falling = refl
 

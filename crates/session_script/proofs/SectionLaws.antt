@@ -18,7 +18,7 @@ use Rattle.session_script.specs.Lines.{lines, words, word_at, leads, all_plain, 
 use Rattle.session_script.specs.Checks.{is_statement, number_at, numbers_behind, party}
 use Rattle.param_set.specs.Rules.{first_bad}
 use Rattle.session_script.specs.Asked.{Numbers, Asked}
-use Rattle.session_script.specs.Heads.{version_statement, given_params, judged, params_statement, master_seed, seed_statement, rising, present_statement}
+use Rattle.session_script.specs.Heads.{is_version, version_statement, given_params, judged, params_statement, master_seed, seed_statement, rising, present_statement}
 use Rattle.session_script.specs.CircuitLines.{is_name, has_name, circuit_statement, has_room, is_earlier, plain, input_statement, may_turn, is_turn, rot_statement, other_node, is_circuit, circuit_end, in_circuit}
 use Rattle.session_script.specs.LaneLines.{lane_statement, lane_line, lane_end, in_lane, workers_statement}
 use Rattle.session_script.specs.Scripts.{done_statement, between_lanes, between_circuits, statement, spoken, after_line, Refusal, ended, past_line, read_from}
@@ -29,9 +29,9 @@ use Rattle.session_script.specs.Sections.{Statement, is_stated, statements, node
 
 unfoldable Follows : Place → List Statement → Type 0
 Follows place.Start all = AreSections all
-Follows place.Versioned all = Single (codes "params") (Single (codes "seed") (Single (codes "present") AreCircuitsOn)) all
-Follows (place.Measured numbers) all = Single (codes "seed") (Single (codes "present") AreCircuitsOn) all
-Follows (place.Seeded numbers master) all = Single (codes "present") AreCircuitsOn all
+Follows (place.Versioned version) all = Single (codes "params") (Single (codes "seed") (Single (codes "present") AreCircuitsOn)) all
+Follows (place.Measured version numbers) all = Single (codes "seed") (Single (codes "present") AreCircuitsOn) all
+Follows (place.Seeded version numbers master) all = Single (codes "present") AreCircuitsOn all
 Follows (place.Circuits draft) all = AreCircuitsOn all
 Follows (place.InCircuit draft begun) all = Ended is_node AreCircuitsOn all
 Follows (place.Lanes draft) all = AreLanesOn all
@@ -57,27 +57,27 @@ version-leads words =
     let Goal = Leads (Follows place.Start) words in
     past_test Goal (is_statement (codes "helium") 2 words) reason.Word _ (λ is.
     past Goal (number_at words 1) _ (λ version read.
-    past_test Goal (version == 1) reason.Version _ (λ first rest behind. single _ _ words rest (named (codes "helium") 2 words is) behind)))
+    past_test Goal (is_version version) reason.Version _ (λ known rest behind. single _ _ words rest (named (codes "helium") 2 words is) behind)))
 
-params-leads : (words : Statement) → IfOk (params_statement words) (Leads (Follows place.Versioned) words)
+params-leads : (version : ℕ) (words : Statement) → IfOk (params_statement version words) (Leads (Follows (place.Versioned version)) words)
 unfolding params_statement Follows
-params-leads words =
-    let Goal = Leads (Follows place.Versioned) words in
+params-leads version words =
+    let Goal = Leads (Follows (place.Versioned version)) words in
     past_test Goal (is_statement (codes "params") 10 words) reason.Word _ (λ is.
     past Goal (given_params words) _ (λ raw given.
-    past Goal (judged raw (first_bad raw)) _ (λ numbers checked rest behind. single _ _ words rest (named (codes "params") 10 words is) behind)))
+    past Goal (judged version raw (first_bad raw)) _ (λ numbers checked rest behind. single _ _ words rest (named (codes "params") 10 words is) behind)))
 
-seed-leads : (numbers : Numbers) (words : Statement) → IfOk (seed_statement numbers words) (Leads (Follows (place.Measured numbers)) words)
+seed-leads : (version : ℕ) (numbers : Numbers) (words : Statement) → IfOk (seed_statement version numbers words) (Leads (Follows (place.Measured version numbers)) words)
 unfolding seed_statement Follows
-seed-leads numbers words =
-    let Goal = Leads (Follows (place.Measured numbers)) words in
+seed-leads version numbers words =
+    let Goal = Leads (Follows (place.Measured version numbers)) words in
     past_test Goal (is_statement (codes "seed") 2 words) reason.Word _ (λ is.
     past Goal (master_seed (word_at words 1)) _ (λ master spelled rest behind. single _ _ words rest (named (codes "seed") 2 words is) behind))
 
-present-leads : (numbers : Numbers) (master : List ℕ) (words : Statement) → IfOk (present_statement numbers master words) (Leads (Follows (place.Seeded numbers master)) words)
+present-leads : (version : ℕ) (numbers : Numbers) (master : List ℕ) (words : Statement) → IfOk (present_statement version numbers master words) (Leads (Follows (place.Seeded version numbers master)) words)
 unfolding present_statement Follows
-present-leads numbers master words =
-    let Goal = Leads (Follows (place.Seeded numbers master)) words in
+present-leads version numbers master words =
+    let Goal = Leads (Follows (place.Seeded version numbers master)) words in
     past_test Goal (leads (codes "present") words) reason.Word _ (λ is.
     past Goal (numbers_behind [] (drop 1 words)) _ (λ given read.
     past Goal (rising numbers.parties [] 0 given) _ (λ present rise rest behind. single _ _ words rest is behind)))
@@ -269,9 +269,9 @@ between-circuits-leads draft words =
 statement-leads : (at : Place) (words : Statement) → IfOk (statement at words) (Leads (Follows at) words)
 unfolding statement Follows
 statement-leads place.Start words = version-leads words
-statement-leads place.Versioned words = params-leads words
-statement-leads (place.Measured numbers) words = seed-leads numbers words
-statement-leads (place.Seeded numbers master) words = present-leads numbers master words
+statement-leads (place.Versioned version) words = params-leads version words
+statement-leads (place.Measured version numbers) words = seed-leads version numbers words
+statement-leads (place.Seeded version numbers master) words = present-leads version numbers master words
 statement-leads (place.Circuits draft) words = between-circuits-leads draft words
 statement-leads (place.InCircuit draft begun) words = in-circuit-leads draft begun words
 statement-leads (place.Lanes draft) words = between-lanes-leads draft words
@@ -295,9 +295,9 @@ line-leads at line rest = either (λ next. Follows next (stated rest) → Follow
 ended-follows : (at : Place) (n : ℕ) → IfOk (ended at n) (λ asked. Follows at [])
 unfolding ended Follows
 ended-follows place.Start n = tt
-ended-follows place.Versioned n = tt
-ended-follows (place.Measured numbers) n = tt
-ended-follows (place.Seeded numbers master) n = tt
+ended-follows (place.Versioned version) n = tt
+ended-follows (place.Measured version numbers) n = tt
+ended-follows (place.Seeded version numbers master) n = tt
 ended-follows (place.Circuits draft) n = tt
 ended-follows (place.InCircuit draft begun) n = tt
 ended-follows (place.Lanes draft) n = tt

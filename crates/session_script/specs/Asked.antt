@@ -1,5 +1,5 @@
 -- What a script asks for: numbers, names, circuits with the values of their inputs, and lanes.
-use Rattle.std.specs.Prelude.{ℕ, List}
+use Rattle.std.specs.Prelude.{ℕ, ◌==◌, Bool, List}
 use Rattle.param_set.specs.declared.params.Params.{Params}
 use Rattle.param_set.specs.declared.raw.RawParams.{RawParams}
 use Rattle.param_set.specs.Rules.{root_of}
@@ -12,6 +12,7 @@ pub record Numbers : Type 0 where
   pub q : ℕ
   pub t : ℕ
   pub digit_bits : ℕ
+  pub balanced : Bool
   pub err : ℕ
   pub flood : ℕ
   pub parties : ℕ
@@ -25,6 +26,7 @@ numbers_of params = record {
   q = params.q;
   t = params.t;
   digit_bits = params.digit_bits;
+  balanced = params.balanced;
   err = params.err;
   flood = params.flood;
   parties = params.parties;
@@ -32,13 +34,14 @@ numbers_of params = record {
   psi = params.psi;
 }
 
--- those that given numbers stand for
-abbrev pub numbers_given : RawParams → Numbers
-numbers_given raw = record {
+-- those that given numbers stand for in a version: digits are balanced in version 2 alone
+abbrev pub numbers_given : ℕ → RawParams → Numbers
+numbers_given version raw = record {
   n = raw.n;
   q = raw.q;
   t = raw.t;
   digit_bits = raw.digit_bits;
+  balanced = version == 2;
   err = raw.err;
   flood = raw.flood;
   parties = raw.parties;

@@ -1,5 +1,5 @@
 -- The statements before the circuits: version, parameters, seed, and who is present.
-use Rattle.std.specs.Prelude.{ℕ, ◌-◌, ◌==◌, ◌&&◌, nat_lt, nat_le, if◌then◌else◌, List, [], ◌∷◌, ◌++◌, drop, codes, Option, Some, None, Result, Ok, Err}
+use Rattle.std.specs.Prelude.{ℕ, ◌-◌, ◌==◌, ◌&&◌, ◌||◌, nat_lt, nat_le, Bool, if◌then◌else◌, List, [], ◌∷◌, ◌++◌, drop, codes, Option, Some, None, Result, Ok, Err}
 use Rattle.std.specs.Option.{ok_or}
 use Rattle.std.specs.Result.{result_ok}
 use Rattle.hex.specs.Hex.{decode_sized}
@@ -15,13 +15,17 @@ use Rattle.session_script.specs.Lines.{word_at, leads}
 use Rattle.session_script.specs.Checks.{◌>>=◌, unless, is_statement, number_at, numbers_behind}
 use Rattle.session_script.specs.Asked.{Numbers, numbers_given}
 
+-- whether the language has this version
+abbrev pub is_version : ℕ → Bool
+is_version version = (version == 1) || (version == 2)
+
 -- `helium VERSION`
 unfoldable pub version_statement : List (List ℕ) → Result Place Reason
 version_statement words = do
   _ ← unless (is_statement (codes "helium") 2 words) reason.Word
   version ← number_at words 1
-  _ ← unless (version == 1) reason.Version
-  Ok place.Versioned
+  _ ← unless (is_version version) reason.Version
+  Ok (place.Versioned version)
 
 -- the nine numbers of `params`
 unfoldable pub given_params : List (List ℕ) → Result RawParams Reason
@@ -48,28 +52,29 @@ given_params words = do
   })
 
 -- the numbers if they keep the rules of parameters; `bad` is the first field that breaks its rule
-unfoldable pub judged : RawParams → Option Field → Result Numbers Reason
-judged raw (Some bad) = Err (reason.Params bad (value_of raw bad))
-judged raw None = if root_power raw == raw.q - 1 then Ok (numbers_given raw) else Err (reason.NoRoot (root_power raw))
+unfoldable pub judged : ℕ → RawParams → Option Field → Result Numbers Reason
+judged version raw (Some bad) = Err (reason.Params bad (value_of raw bad))
+judged version raw None =
+    if root_power raw == raw.q - 1 then Ok (numbers_given version raw) else Err (reason.NoRoot (root_power raw))
 
 -- `params n q t root b B D N T`
-unfoldable pub params_statement : List (List ℕ) → Result Place Reason
-params_statement words = do
+unfoldable pub params_statement : ℕ → List (List ℕ) → Result Place Reason
+params_statement version words = do
   _ ← unless (is_statement (codes "params") 10 words) reason.Word
   raw ← given_params words
-  numbers ← judged raw (first_bad raw)
-  Ok (place.Measured numbers)
+  numbers ← judged version raw (first_bad raw)
+  Ok (place.Measured version numbers)
 
 -- the 32 bytes that 64 hexadecimal digits of either case spell
 abbrev pub master_seed : List ℕ → Result (List ℕ) Reason
 master_seed word = ok_or (result_ok (decode_sized word 32)) reason.Seed
 
 -- `seed DIGITS`
-unfoldable pub seed_statement : Numbers → List (List ℕ) → Result Place Reason
-seed_statement numbers words = do
+unfoldable pub seed_statement : ℕ → Numbers → List (List ℕ) → Result Place Reason
+seed_statement version numbers words = do
   _ ← unless (is_statement (codes "seed") 2 words) reason.Word
   master ← master_seed (word_at words 1)
-  Ok (place.Seeded numbers master)
+  Ok (place.Seeded version numbers master)
 
 -- these parties, and behind them the others if all are parties and each is above the last
 unfoldable pub rising : ℕ → List ℕ → ℕ → List ℕ → Result (List ℕ) Reason
@@ -78,8 +83,9 @@ rising parties before last (p ∷ rest) =
     if nat_lt last p && nat_le p parties then rising parties (before ++ p ∷ []) p rest else Err reason.Party
 
 -- a script with its head alone
-abbrev pub opening : Numbers → List ℕ → List ℕ → Draft
-opening numbers master present = record {
+abbrev pub opening : ℕ → Numbers → List ℕ → List ℕ → Draft
+opening version numbers master present = record {
+  version = version;
   frame = numbers;
   master = master;
   present = present;
@@ -91,9 +97,9 @@ opening numbers master present = record {
 }
 
 -- `present p1 p2 ..`
-unfoldable pub present_statement : Numbers → List ℕ → List (List ℕ) → Result Place Reason
-present_statement numbers master words = do
+unfoldable pub present_statement : ℕ → Numbers → List ℕ → List (List ℕ) → Result Place Reason
+present_statement version numbers master words = do
   _ ← unless (leads (codes "present") words) reason.Word
   given ← numbers_behind [] (drop 1 words)
   present ← rising numbers.parties [] 0 given
-  Ok (place.Circuits (opening numbers master present))
+  Ok (place.Circuits (opening version numbers master present))

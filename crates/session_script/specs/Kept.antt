@@ -1,6 +1,6 @@
 -- What each accepted script keeps, said of what it asks for: its numbers, who is present, its circuits and
 -- its lanes.
-use Rattle.std.specs.Prelude.{◌≡◌, ℕ, ◌-◌, ◌*◌, ◌%◌, ◌^◌, ◌<◌, ◌≤◌, Bool, List, [], ◌∷◌, ◌++◌, true, None, All, IsTrue, length, map, filter, sum_by, replicate, ⊤}
+use Rattle.std.specs.Prelude.{◌≡◌, ℕ, ◌-◌, ◌*◌, ◌%◌, ◌^◌, ◌<◌, ◌≤◌, ◌==◌, Bool, ◌⊎◌, List, [], ◌∷◌, ◌++◌, true, None, All, IsTrue, length, map, filter, sum_by, replicate, ⊤}
 use Rattle.std.specs.Int.{is_power_of_two}
 use Rattle.std.specs.List.{range_with_len, list_any, IsDistinct}
 use Rattle.std.specs.Str.{bytes_eq}
@@ -11,6 +11,12 @@ use Rattle.session_rules.specs.declared.line.Line.{Line}
 use Rattle.session_rules.specs.declared.line.Line.TheVariants as line
 use Rattle.session_script.specs.Asked.{Numbers, Named, Asked}
 use Rattle.session_script.specs.CircuitLines.{is_name}
+
+-- ---- the version
+
+-- the language has the versions 1 and 2
+abbrev pub IsVersion : ℕ → Type 0
+IsVersion version = (version ≡ 1) ⊎ (version ≡ 2)
 
 -- ---- the numbers
 
@@ -119,8 +125,10 @@ pub record AreLanes (numbers : Numbers) (lanes : List (List Line)) : Type 0 wher
 -- ---- the script
 
 pub record IsAccepted (script : Asked) : Type 0 where
-  -- the version of the language
-  pub version : script.version ≡ 1
+  -- the language has its version
+  pub version : IsVersion script.version
+  -- digits are balanced in version 2 alone
+  pub balanced : script.numbers.balanced ≡ (script.version == 2)
   -- its numbers are those of checked parameters
   pub numbers : AreChecked script.numbers
   -- those who are present are parties and rise

@@ -21,13 +21,17 @@ lane_statement draft words = do
 abbrev pub has_line_left : Draft → Bool
 has_line_left draft = nat_lt draft.lines 4096
 
+-- a party that a line names: in each version one of the N parties
+abbrev pub lane_party : Draft → ℕ → Result ℕ Reason
+lane_party draft p = party draft.frame p
+
 -- the party of `join p`, `lose p` and `send p`
 unfoldable pub lone_party : Draft → List (List ℕ) → Result ℕ Reason
 lone_party draft words = do
   _ ← unless (length words == 2) reason.Word
   p ← number_at words 1
   _ ← unless (has_line_left draft) reason.Limit
-  party draft.frame p
+  lane_party draft p
 
 -- `hold p i`
 unfoldable pub hold_line : Draft → List (List ℕ) → Result Line Reason
@@ -36,7 +40,7 @@ hold_line draft words = do
   given ← number_at words 1
   id ← number_at words 2
   _ ← unless (has_line_left draft) reason.Limit
-  p ← party draft.frame given
+  p ← lane_party draft given
   _ ← unless (nat_le 1 id && nat_lt id (2 ^ 32)) reason.Id
   Ok (line.Hold p id)
 

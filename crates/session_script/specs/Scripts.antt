@@ -38,9 +38,9 @@ between_circuits draft words =
 -- a statement, by what may stand at its place
 unfoldable pub statement : Place → List (List ℕ) → Result Place Reason
 statement place.Start words = version_statement words
-statement place.Versioned words = params_statement words
-statement (place.Measured numbers) words = seed_statement numbers words
-statement (place.Seeded numbers master) words = present_statement numbers master words
+statement (place.Versioned version) words = params_statement version words
+statement (place.Measured version numbers) words = seed_statement version numbers words
+statement (place.Seeded version numbers master) words = present_statement version numbers master words
 statement (place.Circuits draft) words = between_circuits draft words
 statement (place.InCircuit draft begun) words = in_circuit draft begun words
 statement (place.Lanes draft) words = between_lanes draft words
@@ -64,7 +64,7 @@ pub record Refusal : Type 0 where
 -- what a finished script asks for
 abbrev pub asked_by : Draft → Asked
 asked_by draft = record {
-  version = 1;
+  version = draft.version;
   numbers = draft.frame;
   master = draft.master;
   present = draft.present;

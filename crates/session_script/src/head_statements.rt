@@ -1,8 +1,10 @@
-ghost use Rattle.std.specs.Prelude.{◌≡◌, []};
+ghost use Rattle.std.specs.Prelude.{◌≡◌, ◌==◌, false, []};
 ghost use Rattle.session_script.specs.Words.{texts};
 ghost use Rattle.session_script.specs.Checks.{Follows};
-ghost use Rattle.session_script.specs.Heads.{version_statement, given_params, judged, params_statement, master_seed, seed_statement, rising, present_statement};
+ghost use Rattle.session_script.specs.Heads.{is_version, version_statement, given_params, judged, params_statement, master_seed, seed_statement, rising, present_statement};
+ghost use Rattle.session_script.specs.Asked.{numbers_of};
 ghost use Rattle.param_set.specs.Rules.{first_bad};
+ghost use Rattle.param_set.specs.Numbers.{numbers_of as bounding};
 
 use crate::checks::{is_statement, number_at, numbers, unless};
 use crate::frame::Frame;
@@ -15,6 +17,13 @@ use hex::FromHex;
 use param_set::{Ids, ParamFault, Params, RawParams};
 use std::alloc::Global;
 
+/// Whether the language has this version.
+fn is_version(version: u64) -> bool
+    ensures { result ≡ is_version version }
+{
+    version == 1 || version == 2
+}
+
 /// `helium VERSION`
 #[tactic(auto, unfolding(crate::specs::Heads::version_statement))]
 pub(crate) fn version_statement(words: &[&[u8]]) -> Result<Place, Reason>
@@ -22,8 +31,10 @@ pub(crate) fn version_statement(words: &[&[u8]]) -> Result<Place, Reason>
 {
     unless(is_statement("helium", 2, words), Reason::Word)?;
     let version = number_at(words, 1)?;
-    unless(version == 1, Reason::Version)?;
-    Ok(Place::Versioned)
+    unless(is_version(version), Reason::Version)?;
+    Ok(Place::Versioned {
+        version: version as u32,
+    })
 }
 
 /// The nine numbers of `params`.
@@ -44,13 +55,26 @@ fn given_params(words: &[&[u8]]) -> Result<RawParams, Reason>
     })
 }
 
-/// The parameters with these numbers.
+/// Parameters without balanced digits as a version has them: in version 2 their digits are balanced.
+fn versioned(version: u32, params: Params) -> Params
+    requires { params.balanced ≡ false }
+    ensures numbers { bounding result ≡ record (bounding params) { balanced = version == 2 } }
+    ensures psi { result.psi ≡ params.psi }
+{
+    if version == 2 {
+        params.balanced()
+    } else {
+        params
+    }
+}
+
+/// The parameters with these numbers, as a version has them.
 #[tactic(auto, unfolding(crate::specs::Heads::judged))]
-fn judged(raw: &RawParams) -> Result<Frame, Reason>
-    ensures { result ≡ judged raw.now (first_bad raw.now) }
+fn judged(version: u32, raw: &RawParams) -> Result<Frame, Reason>
+    ensures { result ≡ judged version raw.now (first_bad raw.now) }
 {
     match Params::check(raw) {
-        Ok(params) => Ok(Frame::new(params)),
+        Ok(params) => Ok(Frame::new(versioned(version, params))),
         Err(ParamFault::Bad { field, value }) => Err(Reason::Params { field, value }),
         Err(ParamFault::NoRoot { value }) => Err(Reason::NoRoot { value }),
     }
@@ -58,13 +82,13 @@ fn judged(raw: &RawParams) -> Result<Frame, Reason>
 
 /// `params n q t root b B D N T`
 #[tactic(auto, unfolding(crate::specs::Heads::params_statement))]
-pub(crate) fn params_statement(words: &[&[u8]]) -> Result<Place, Reason>
-    ensures { result ≡ params_statement (texts words.now) }
+pub(crate) fn params_statement(version: u32, words: &[&[u8]]) -> Result<Place, Reason>
+    ensures { result ≡ params_statement version (texts words.now) }
 {
     unless(is_statement("params", 10, words), Reason::Word)?;
     let raw = given_params(words)?;
-    let frame = judged(&raw)?;
-    Ok(Place::Measured { frame })
+    let frame = judged(version, &raw)?;
+    Ok(Place::Measured { version, frame })
 }
 
 /// The 32 bytes that 64 hexadecimal digits of either case spell.
@@ -78,12 +102,16 @@ fn master_seed(word: &[u8]) -> Result<[u8; 32], Reason>
 
 /// `seed DIGITS`
 #[tactic(auto, unfolding(crate::specs::Heads::seed_statement))]
-pub(crate) fn seed_statement(frame: Frame, words: &[&[u8]]) -> Result<Place, Reason>
-    ensures { result ≡ seed_statement frame (texts words.now) }
+pub(crate) fn seed_statement(version: u32, frame: Frame, words: &[&[u8]]) -> Result<Place, Reason>
+    ensures { result ≡ seed_statement version frame (texts words.now) }
 {
     unless(is_statement("seed", 2, words), Reason::Word)?;
     let master = master_seed(word_at(words, 1))?;
-    Ok(Place::Seeded { frame, master })
+    Ok(Place::Seeded {
+        version,
+        frame,
+        master,
+    })
 }
 
 /// The numbers as those of parties, each above the last.
@@ -107,17 +135,19 @@ fn rising(alloc: Global, parties: u32, given: &[u64]) -> Result<Ids, Fault>
 #[tactic(auto, unfolding(crate::specs::Heads::present_statement))]
 pub(crate) fn present_statement(
     alloc: Global,
+    version: u32,
     frame: Frame,
     master: [u8; 32],
     words: &[&[u8]],
 ) -> Result<Place, Fault>
-    ensures { Follows (present_statement frame master (texts words.now)) result }
+    ensures { Follows (present_statement version frame master (texts words.now)) result }
 {
     unless(leads("present", words), Reason::Word)?;
     let given = numbers(alloc, behind(words, 1))?;
     let present = rising(alloc, frame.parties(), &given)?;
     Ok(Place::Circuits {
         draft: Draft {
+            version,
             frame,
             master,
             present,

@@ -4,7 +4,7 @@ ghost use Rattle.session_script.specs.Words.{texts};
 ghost use Rattle.session_script.specs.declared.place.Place.TheVariants as place;
 ghost use Rattle.session_script.specs.Lines.{leads};
 ghost use Rattle.session_script.specs.Checks.{Follows, Leaves};
-ghost use Rattle.session_script.specs.LaneLines.{lane_statement, has_line_left, lone_party, hold_line, lone_line, lane_line, lane_end, in_lane, workers_statement};
+ghost use Rattle.session_script.specs.LaneLines.{lane_statement, has_line_left, lane_party, lone_party, hold_line, lone_line, lane_line, lane_end, in_lane, workers_statement};
 
 use crate::checks::{number_at, party, unless};
 use crate::lanes::{Lane, Lanes};
@@ -40,6 +40,13 @@ fn has_line_left(draft: &Draft) -> bool
     draft.lines < 4096
 }
 
+/// A party that a line names.
+fn lane_party(draft: &Draft, p: u64) -> Result<u32, Reason>
+    ensures { result ≡ lane_party draft.now p }
+{
+    party(&draft.frame, p)
+}
+
 /// The party of `join p`, `lose p` and `send p`.
 #[tactic(auto, unfolding(crate::specs::LaneLines::lone_party))]
 fn lone_party(draft: &Draft, words: &[&[u8]]) -> Result<u32, Reason>
@@ -49,7 +56,7 @@ fn lone_party(draft: &Draft, words: &[&[u8]]) -> Result<u32, Reason>
     unless(words.len() == 2, Reason::Word)?;
     let p = number_at(words, 1)?;
     unless(has_line_left(draft), Reason::Limit)?;
-    party(&draft.frame, p)
+    lane_party(draft, p)
 }
 
 /// `hold p i`
@@ -62,7 +69,7 @@ fn hold_line(draft: &Draft, words: &[&[u8]]) -> Result<Line, Reason>
     let given = number_at(words, 1)?;
     let id = number_at(words, 2)?;
     unless(has_line_left(draft), Reason::Limit)?;
-    let p = party(&draft.frame, given)?;
+    let p = lane_party(draft, given)?;
     unless(1 <= id && id < 1 << 32, Reason::Id)?;
     Ok(Line::Hold { p, id: id as u32 })
 }

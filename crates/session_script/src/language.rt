@@ -25,9 +25,9 @@ use std::alloc::Global;
 /// What a script asks for.
 #[derive(Drop)]
 pub struct Script {
-    /// The version of the language, which is 1.
+    /// The version of the language, 1 or 2.
     pub version: u32,
-    /// The numbers of the session.
+    /// The numbers of the session; in version 2 digits are balanced.
     pub params: Params,
     /// The master seed, from which all draws come.
     pub master: [u8; 32],
@@ -81,9 +81,13 @@ fn statement(alloc: Global, place: Place, words: &[&[u8]]) -> Result<Place, Faul
 {
     match place {
         Place::Start => Ok(version_statement(words)?),
-        Place::Versioned => Ok(params_statement(words)?),
-        Place::Measured { frame } => Ok(seed_statement(frame, words)?),
-        Place::Seeded { frame, master } => present_statement(alloc, frame, master, words),
+        Place::Versioned { version } => Ok(params_statement(version, words)?),
+        Place::Measured { version, frame } => Ok(seed_statement(version, frame, words)?),
+        Place::Seeded {
+            version,
+            frame,
+            master,
+        } => present_statement(alloc, version, frame, master, words),
         Place::Circuits { draft } => between_circuits(alloc, draft, words),
         Place::InCircuit { draft, begun } => in_circuit(alloc, draft, begun, words),
         Place::Lanes { draft } => between_lanes(alloc, draft, words),
@@ -137,7 +141,7 @@ fn ended(place: Place, line: u32) -> Result<Script, ScriptStop>
     };
     let master = draft.master;
     Ok(Script {
-        version: 1,
+        version: draft.version,
         params: draft.frame.into_params(),
         master,
         present: draft.present,

@@ -8,6 +8,7 @@ use param_set::{Ids, Plains};
 /// What is known of a script behind its head.
 #[derive(Drop)]
 pub(crate) struct Draft {
+    pub(crate) version: u32,
     pub(crate) frame: Frame,
     pub(crate) master: [u8; 32],
     pub(crate) present: Ids,
@@ -35,19 +36,42 @@ pub(crate) struct OpenCircuit {
 pub(crate) enum Place {
     Start,
     /// Behind the version.
-    Versioned,
+    Versioned {
+        version: u32,
+    },
     /// Behind the parameters.
-    Measured { frame: Frame },
+    Measured {
+        version: u32,
+        frame: Frame,
+    },
     /// Behind the seed.
-    Seeded { frame: Frame, master: [u8; 32] },
+    Seeded {
+        version: u32,
+        frame: Frame,
+        master: [u8; 32],
+    },
     /// Between circuits.
-    Circuits { draft: Draft },
-    InCircuit { draft: Draft, begun: OpenCircuit },
+    Circuits {
+        draft: Draft,
+    },
+    InCircuit {
+        draft: Draft,
+        begun: OpenCircuit,
+    },
     /// Behind a lane.
-    Lanes { draft: Draft },
-    InLane { draft: Draft, lane: Lane },
+    Lanes {
+        draft: Draft,
+    },
+    InLane {
+        draft: Draft,
+        lane: Lane,
+    },
     /// Behind the workers.
-    Closing { draft: Draft },
+    Closing {
+        draft: Draft,
+    },
     /// Behind `done`.
-    Finished { draft: Draft },
+    Finished {
+        draft: Draft,
+    },
 }

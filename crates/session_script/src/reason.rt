@@ -16,7 +16,7 @@ pub enum Reason {
     Word,
     /// A word that must be a number is none.
     Number,
-    /// The version is not 1.
+    /// The version is neither 1 nor 2.
     Version,
     /// One more than there may be, as docs/FORMATS.md lists them.
     Limit,

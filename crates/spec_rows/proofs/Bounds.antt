@@ -1,5 +1,5 @@
 -- Noise bounds: every row for small numbers, the parts of a product's for larger ones, and the first place above the limit.
-use Rattle.std.proofs.Common.{◌≡◌, List, [], ◌∷◌, Some, None, refl}
+use Rattle.std.proofs.Common.{◌≡◌, true, false, List, [], ◌∷◌, Some, None, refl}
 use lib.Count.{count_leading_zeros}
 use Rattle.circuit_form.specs.declared.node.Node.{Node}
 use Rattle.circuit_form.specs.declared.node.Node.TheVariants.{Input, Const, Add, Sub, Neg, Mul, Rot}
@@ -11,13 +11,16 @@ use Rattle.noise_ledger.specs.Ledger.{product_bound, node_bound, bounds_from, no
 
 -- l is 3, r is 1, and L is 11
 abbrev pub small : Numbers
-small = record { n = 2; q = 97; t = 4; digit_bits = 3; err = 1; flood = 2; parties = 3; threshold = 2 }
+small = record { n = 2; q = 97; t = 4; digit_bits = 3; balanced = false; err = 1; flood = 2; parties = 3; threshold = 2 }
 
 abbrev pub frame : Numbers
-frame = record { n = 8; q = 31525197391593473; t = 16; digit_bits = 8; err = 1; flood = 1; parties = 3; threshold = 2 }
+frame = record { n = 8; q = 31525197391593473; t = 16; digit_bits = 8; balanced = false; err = 1; flood = 1; parties = 3; threshold = 2 }
+
+abbrev pub balanced_frame : Numbers
+balanced_frame = record frame { balanced = true }
 
 abbrev pub larger : Numbers
-larger = record { n = 1024; q = 31525197391593473; t = 16; digit_bits = 8; err = 8; flood = 1048576; parties = 3; threshold = 2 }
+larger = record { n = 1024; q = 31525197391593473; t = 16; digit_bits = 8; balanced = false; err = 8; flood = 1048576; parties = 3; threshold = 2 }
 
 abbrev pub nodes : List Node
 nodes = Input 2 ∷ Input 1 ∷ Add 0 1 ∷ Sub 0 2 ∷ Neg 0 ∷ Const (3 ∷ 1 ∷ []) ∷ Mul 2 5 ∷ Mul 5 1 ∷ Mul 5 5 ∷ Rot 3 0 ∷ Mul 0 1 ∷ []
@@ -48,6 +51,11 @@ pub framed : (node_bounds frame (Input 1 ∷ Input 2 ∷ Add 0 1 ∷ []) ≡ 41 
     × (place_bound frame (Input 1 ∷ Input 2 ∷ Mul 0 1 ∷ []) Output ≡ 1350127)
 unfolding place_bound output_bound node_bounds bounds_from node_bound product_bound switched crossed rounding input_bound sum_bound mul_bound count_leading_zeros
 framed = (refl, refl, refl)
+
+-- with balanced digits a digit is at most 128 in place of 255: a product, and a rotation
+pub balanced_ones : (node_bounds balanced_frame (Input 1 ∷ Input 2 ∷ Mul 0 1 ∷ []) ≡ 41 ∷ 41 ∷ 752717 ∷ []) × (node_bounds balanced_frame (Input 1 ∷ Rot 3 0 ∷ []) ≡ 41 ∷ 14378 ∷ []) × (node_bounds frame (Input 1 ∷ Rot 3 0 ∷ []) ≡ 41 ∷ 28602 ∷ [])
+unfolding node_bounds bounds_from node_bound product_bound switched crossed rounding input_bound rot_bound mul_bound count_leading_zeros
+balanced_ones = (refl, refl, refl)
 
 -- ---- the first place above the limit of 11
 

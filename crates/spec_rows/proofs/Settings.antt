@@ -26,7 +26,7 @@ use Rattle.session_rules.specs.Fixing.{begins_as, plan_of, fixed_from}
 use Rattle.session_spec.specs.Settings.{Offer, Setting, gadget_rows, rules, nodes_at, values_at, value_at, owner_at, input_count, plain_at, seed_at, Keeps, Tells, IsSetting, HasValues}
 
 abbrev pub numbers : Numbers
-numbers = record { n = 2; q = 1009; t = 4; digit_bits = 5; err = 1; flood = 2; parties = 3; threshold = 2 }
+numbers = record { n = 2; q = 1009; t = 4; digit_bits = 5; balanced = false; err = 1; flood = 2; parties = 3; threshold = 2 }
 
 -- 3 + 2X
 abbrev pub constant : Offer
@@ -93,6 +93,7 @@ p = record {
   q = 31525197391593473;
   t = 16;
   digit_bits = 8;
+  balanced = false;
   err = 1;
   flood = 1;
   parties = 3;

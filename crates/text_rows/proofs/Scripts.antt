@@ -49,14 +49,14 @@ skipped = (refl, refl, refl)
 -- ---- scripts: two coefficients modulo 4, and three parties
 
 abbrev pub numbers : Numbers
-numbers = record { n = 2; q = 17; t = 4; digit_bits = 1; err = 1; flood = 1; parties = 3; threshold = 2; psi = 4 }
+numbers = record { n = 2; q = 17; t = 4; digit_bits = 1; balanced = false; err = 1; flood = 1; parties = 3; threshold = 2; psi = 4 }
 
 abbrev pub master : List ℕ
 master = replicate 32 171
 
 -- what a script says from its third line on: the seed, and the lines behind it
 abbrev pub from_seed : List ℕ → List ℕ → Result Asked Refusal
-from_seed seed rest = past_line 3 (seed_statement numbers (words seed)) (λ next. read_from next 4 (lines rest))
+from_seed seed rest = past_line 3 (seed_statement 1 numbers (words seed)) (λ next. read_from next 4 (lines rest))
 
 pub whole : from_seed (codes "seed abababababababababababababababababababababababababABABABABABABAB") (codes "present 1 3\n# a comment\ncircuit c\ninput 2 3\n\nconst 1 2\nadd 0 1\nsub 1 2\nneg 3\nmul 1 4\nrot 3 5\nend\nlane\njoin 2\nlose 2\nsend 1\nhold 1 7\ngive\nwork\nquit\nend\nworkers 2 1\ndone\n")
     ≡ Ok (record {
@@ -78,11 +78,11 @@ whole = refl
 abbrev refusal : ℕ → Reason → Result Asked Refusal
 refusal at why = Err (record { line = at; reason = why })
 
-pub ends_too_early : (script [] ≡ refusal 1 reason.End) × (script (codes "helium 1\n") ≡ refusal 2 reason.End) × (script (codes "# nothing\n\n") ≡ refusal 3 reason.End)
+pub ends_too_early : (script [] ≡ refusal 1 reason.End) × (script (codes "helium 1\n") ≡ refusal 2 reason.End) × (script (codes "# nothing\n\n") ≡ refusal 3 reason.End) × (script (codes "helium 2\n") ≡ refusal 2 reason.End)
 unfolding script read_from lines without_end parts_at after_line spoken words is_skipped statement version_statement number digits_behind ended
-ends_too_early = (refl, refl, refl)
+ends_too_early = (refl, refl, refl, refl)
 
-pub refused_at_first : (script (codes "helium 2") ≡ refusal 1 reason.Version) × (script (codes "helium") ≡ refusal 1 reason.Word) × (script (codes "helium x") ≡ refusal 1 reason.Number) × (script (codes "helium\t1") ≡ refusal 1 reason.Byte) × (script (codes "\nhelium 1\nseed 0") ≡ refusal 3 reason.Word)
+pub refused_at_first : (script (codes "helium 3") ≡ refusal 1 reason.Version) × (script (codes "helium") ≡ refusal 1 reason.Word) × (script (codes "helium x") ≡ refusal 1 reason.Number) × (script (codes "helium\t1") ≡ refusal 1 reason.Byte) × (script (codes "\nhelium 1\nseed 0") ≡ refusal 3 reason.Word)
 unfolding script read_from lines without_end parts_at after_line spoken words is_skipped statement version_statement params_statement number digits_behind
 refused_at_first = (refl, refl, refl, refl, refl)
 

@@ -7,7 +7,7 @@
 
 mod samples;
 
-pub use samples::{AT_LIMIT, ONE, PAST_LIMIT, SEED, THREE, read, script};
+pub use samples::{AT_LIMIT, ONE, PAST_LIMIT, SEED, THREE, read, script, script_in};
 
 #[cfg(test)]
 mod limits;

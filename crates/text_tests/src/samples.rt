@@ -28,9 +28,21 @@ pub fn script(
     present: &str,
     rest: &str,
 ) -> Result<String, AllocError> {
+    script_in(alloc, "helium 1", params, present, rest)
+}
+
+/// The same with this line of the version.
+pub fn script_in(
+    alloc: Global,
+    version: &str,
+    params: &str,
+    present: &str,
+    rest: &str,
+) -> Result<String, AllocError> {
     let mut text = String::new(alloc);
     for piece in [
-        "helium 1\n",
+        version,
+        "\n",
         params,
         "\n",
         SEED,

@@ -41,7 +41,7 @@ const ABOVE_N: Reason = Reason::Params {
 };
 
 // Line, what stands in its place, the line that is refused, and why.
-const REFUSED: [(usize, &str, u32, Reason); 44] = [
+const REFUSED: [(usize, &str, u32, Reason); 46] = [
     (1, "\u{7f}", 1, Reason::Byte),
     (5, "circuit\tc", 5, Reason::Byte),
     (11, "#\n\t", 12, Reason::Byte),
@@ -58,7 +58,9 @@ const REFUSED: [(usize, &str, u32, Reason); 44] = [
     (1, "helium 01", 1, Reason::Number),
     (1, "helium 18446744073709551616", 1, Reason::Number),
     (6, "input 1 -0", 6, Reason::Number),
-    (1, "helium 2", 1, Reason::Version),
+    (1, "helium 0", 1, Reason::Version),
+    (1, "helium 3", 1, Reason::Version),
+    (1, "helium 2\n# balanced\nseed", 3, Reason::Word),
     (9, "end\nworkers 9 0", 10, Reason::Limit),
     (9, "end\nworkers 0 257", 10, Reason::Limit),
     (2, "params 8 31525197391593473 16 3 8 1 1 3 4", 2, ABOVE_N),
@@ -163,6 +165,32 @@ fn reads_the_base(rt: HostRuntime) -> Result<(), Fail> {
     for text in [text.as_str(), text.trim_end_matches('\n')] {
         assert!(rt; reads(rt.alloc(), text)?, "{text}");
     }
+    Ok(())
+}
+
+// Whether a text is a script of this version, whose digits are balanced in version 2 alone.
+fn reads_version(alloc: Global, text: &str, version: u32) -> Result<bool, ScriptStop> {
+    let script = read(alloc, text)?;
+    Ok(
+        is_the_base(&script)
+            && script.version == version
+            && script.params.is_balanced() == (version == 2),
+    )
+}
+
+// The versions 1 and 2 have the same lines; a line `reshare` is none of them.
+#[test]
+fn reads_both_versions(rt: HostRuntime) -> Result<(), Fail> {
+    let alloc = rt.alloc();
+    for (line, version) in [("helium 1", 1), ("helium 2", 2)] {
+        let text = changed(alloc, 1, line)?;
+        assert!(rt; reads_version(alloc, text.as_str(), version)?, "{line}");
+    }
+    let text = changed(alloc, 1, "helium 2")?;
+    let text = text
+        .as_str()
+        .replacen(alloc, "end\n", "end\nlane\nreshare 2 3\n", 1)?;
+    assert!(rt; is_refused(alloc, text.as_str(), 11, Reason::Word));
     Ok(())
 }
 
