@@ -1,8 +1,7 @@
--- Calls that bring nothing: what is done asks for nothing to be honest, and taking a circuit leaves the polynomials.
-use Rattle.std.proofs.Common.{◌≡◌, refl, ℕ, Bool, true, false, List, Option, Some, None}
+-- Calls that bring nothing: what is done asks for nothing to be honest.
+use Rattle.std.proofs.Common.{ℕ, Bool, true, false, List, Option, Some, None}
 use Rattle.std.specs.Prelude.{if◌then◌else◌}
 use Rattle.share_spec.specs.Sets.{has}
-use Rattle.proto_names.specs.declared.instance.Instance.{Instance}
 use Rattle.session_rules.specs.declared.deed.Deed.TheVariants.{Joins, Turns}
 use Rattle.session_rules.specs.declared.deed.Verdict.{Verdict}
 use Rattle.session_rules.specs.declared.fixed.Fixed.{Fixed}
@@ -11,7 +10,7 @@ use Rattle.session_rules.specs.declared.state.CircuitState.TheVariants.{Taken}
 use Rattle.session_rules.specs.States.{State}
 use Rattle.session_rules.specs.Steps.{says, does, join, next_ready, take}
 use Rattle.session_spec.specs.Settings.{Setting}
-use Rattle.session_spec.specs.Stores.{Store, Brought, with_deed, with_turn, store_done}
+use Rattle.session_spec.specs.Stores.{Brought}
 use Rattle.session_spec.specs.Honesty.{Brings}
 
 pub join_brings : (w : Setting) (seeds : List (List ℕ)) (s : State) (p : ℕ) (b : Brought) → Brings w seeds s (join s p).deed b
@@ -23,7 +22,7 @@ join_brings w seeds s p b = at (has s.present p)
     at false = tt
 
 -- a circuit that is taken, or none
-abbrev take_by : ℕ → Option ℕ → Verdict
+abbrev pub take_by : ℕ → Option ℕ → Verdict
 take_by who None = says reply.Nothing
 take_by who (Some c) = does (reply.Job c) (Turns c (Taken who))
 
@@ -34,11 +33,3 @@ take_brings w seeds f s who b = at (next_ready f s)
     at : (o : Option ℕ) → Brings w seeds s (take_by who o).deed b
     at None = tt
     at (Some c) = tt
-
-pub take_leaves : (w : Setting) (f : Fixed) (s : State) (who : ℕ) (b : Brought) (is : List Instance) (h : Store) → store_done w (take f s who).deed b is h ≡ h
-unfolding take store_done with_deed with_turn
-take_leaves w f s who b is h = at (next_ready f s)
-  where
-    at : (o : Option ℕ) → store_done w (take_by who o).deed b is h ≡ h
-    at None = refl
-    at (Some c) = refl

@@ -1,6 +1,6 @@
 -- What a session is after a call, and what its call made.
 use Rattle.std.proofs.Common.{◌≡◌, ◌∙◌, sym, ap, ap₂, subst, ℕ, ◌+◌, ◌<◌, Bool, true, List, [], ◌∷◌, ◌++◌, length, arith}
-use Rattle.std.specs.Prelude.{vec_len, vec_capacity}
+use Rattle.std.specs.Prelude.{Ok, vec_len, vec_capacity}
 use Rattle.std.proofs.lemmas.List.{length-append}
 use Rattle.param_set.specs.declared.params.Params.{Params}
 use Rattle.party_roll.specs.declared.roll.Roll.{Ghosts}
@@ -24,7 +24,7 @@ use Rattle.session_state.specs.declared.standing.Standing.{Standing}
 use Rattle.session_state.specs.Standings.{setting, rules_of, state, store}
 use Rattle.session_core.specs.declared.session.Session.{Session}
 use Rattle.session_core.specs.Sessions.{Known, known_by, said, IsSound, IsSoundBy}
-use Rattle.session_core.specs.Calls.{known, reply_to, made_store, HasSpare, Doubles, Waits, Made}
+use Rattle.session_core.specs.Calls.{About, about, known, reply_to, made_store, HasSpare, Doubles, Waits, Made, Called}
 use Rattle.session_core.proofs.Grown.{after_call, stands}
 use Rattle.session_core.proofs.Members.{JoinsOf, still_present}
 
@@ -33,6 +33,9 @@ known_from tells seed most w p = record { params = p; setting = w; tells = tells
 
 known_is : (tells : Bool) (seed : ℕ → List ℕ) (most : ℕ) (st now : Standing) → setting now ≡ setting st → now.params ≡ st.params → known_by tells seed most now ≡ known_by tells seed most st
 known_is tells seed most st now same params = ap₂ (known_from tells seed most) same params
+
+abbrev about_from : {R : Type 0} → R → Known → About R
+about_from r k = record { roll = r; known = k }
 
 module _ {R : Type 0} {K : Ghosts R} where
   pub stands_in : (s : Session R K) → K.tells s.roll ≡ true → Stands s.standing.params (known s).setting (known s).seeds (state s.standing) (store s.standing)
@@ -94,16 +97,54 @@ module _ {R : Type 0} {K : Ghosts R} where
   pub reply_is : (old s : Session R K) (caller : ℕ) (c : Call) → Waits old s → reply_to old caller c ≡ (step (rules_of s.standing) (state s.standing) caller c).0
   reply_is old s caller c w = ap (λ (x : Reply × State). x.0) (sym (said_is old s caller c w))
 
-  pub made : (old s new : Session R K) (caller : ℕ) (c : Call) (r copy : Reply) (b : Brought) → copy ≡ r → Waits old s → Doubles old s → HasSpare s → Moved s new.standing caller c r b
-      → new.log.items ≡ s.log.items ++ entry caller c copy ∷ [] → vec_len new.log ≡ vec_len s.log + 1 → vec_capacity new.log ≡ vec_capacity s.log → Made old new caller c r
-  made old s new caller c r copy b same w doubles spare moved logged len capacity = record {
-    reply = moved.reply ∙ ap (λ (x : Reply × State). x.0) (said_is old s caller c w);
-    state = moved.state ∙ ap (λ (x : Reply × State). x.1) (said_is old s caller c w);
-    log = logged ∙ ap₂ (λ (es : List Entry) (x : Reply). es ++ entry caller c x ∷ []) w.log same;
-    room = omega (arith, w.room);
-    doubles = omega arith;
-  }
-
-  pub store_made : (old s : Session R K) (caller : ℕ) (c : Call) (b : Brought) (h : Store) → Waits old s → h ≡ made_store s caller c b → h ≡ made_store old caller c b
+  -- what the polynomials are then
+  store_made : (old s : Session R K) (caller : ℕ) (c : Call) (b : Brought) (h : Store) → Waits old s → h ≡ made_store s caller c b → h ≡ made_store old caller c b
   store_made old s caller c b h w e =
       e ∙ ap (λ (st : Standing). store_done (setting st) (judge (rules_of st) (state st) caller c).deed b (step (rules_of st) (state st) caller c).1.instances (store st)) w.standing
+
+  about_is : (old s new : Session R K) → Waits old s → new.roll ≡ s.roll → new.max_calls ≡ s.max_calls → setting new.standing ≡ setting s.standing → new.standing.params ≡ s.standing.params
+      → about new ≡ about old
+  about_is old s new w roll most same params =
+      let tells = K.tells old.roll in
+      let seed = K.seed old.roll in
+      let there : known new ≡ known old =
+      ap (λ (r : R). known_by (K.tells r) (K.seed r) new.max_calls new.standing) (roll ∙ w.roll)
+      ∙ ap (λ (n : ℕ). known_by tells seed n new.standing) (most ∙ w.most)
+      ∙ known_is tells seed old.max_calls s.standing new.standing same params
+      ∙ ap (λ (st : Standing). known_by tells seed old.max_calls st) w.standing in
+      ap₂ about_from (roll ∙ w.roll) there
+
+  -- a call for which there is room, and the entry that it leaves
+  pub record Begins (old s : Session R K) : Type 0 where
+    pub waits : Waits old s
+    pub doubles : Doubles old s
+    pub room : HasSpare s
+    pub more : length old.log.items < old.max_calls
+
+  pub record Logs (s new : Session R K) (caller : ℕ) (c : Call) (r : Reply) : Type 0 where
+    pub roll : new.roll ≡ s.roll
+    pub most : new.max_calls ≡ s.max_calls
+    pub items : new.log.items ≡ s.log.items ++ entry caller c r ∷ []
+    pub len : vec_len new.log ≡ vec_len s.log + 1
+    pub capacity : vec_capacity new.log ≡ vec_capacity s.log
+
+  made : (old s new : Session R K) (caller : ℕ) (c : Call) (r copy : Reply) (b : Brought) → copy ≡ r → Begins old s → Moved s new.standing caller c r b → Logs s new caller c copy → Made old new caller c r
+  made old s new caller c r copy b same begun moved logged =
+      let w = begun.waits in
+      record {
+        reply = moved.reply ∙ ap (λ (x : Reply × State). x.0) (said_is old s caller c w);
+        state = moved.state ∙ ap (λ (x : Reply × State). x.1) (said_is old s caller c w);
+        log = logged.items ∙ ap₂ (λ (es : List Entry) (x : Reply). es ++ entry caller c x ∷ []) w.log same;
+        room = omega (arith, w.room, begun.room, logged.len, logged.capacity);
+        doubles = omega (arith, begun.doubles, logged.capacity);
+      }
+
+  pub called : {X : Type 0} (said_in : X → Reply) (old s new : Session R K) (x : X) (caller : ℕ) (c : Call) (copy : Reply) (b : Brought) → copy ≡ said_in x → Begins old s
+      → Moved s new.standing caller c (said_in x) b → Logs s new caller c copy → Called old new (Ok x) said_in caller c b
+  called said_in old s new x caller c copy b same begun moved logged = record {
+    about = about_is old s new begun.waits logged.roll logged.most moved.setting moved.params;
+    made = made old s new caller c (said_in x) copy b same begun moved logged;
+    store = store_made old s caller c b (store new.standing) begun.waits moved.store;
+    stopped = tt;
+    spent = (λ e. cc, λ full. absurd (let more = begun.more in omega (arith, full, more)));
+  }

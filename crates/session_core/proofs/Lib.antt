@@ -2,4 +2,5 @@ pub mod Members
 pub mod Grown
 pub mod Going
 pub mod Brought
+pub mod Leaving
 pub mod Handed

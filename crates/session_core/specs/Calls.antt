@@ -1,5 +1,5 @@
 -- What the calls of a session come to.
-use Rattle.std.specs.Prelude.{◌≡◌, ℕ, ◌+◌, ◌*◌, ◌≤◌, List, [], ◌∷◌, ◌++◌, length, vec_capacity, Result, Err}
+use Rattle.std.specs.Prelude.{◌≡◌, ℕ, ◌+◌, ◌*◌, ◌≤◌, List, [], ◌∷◌, ◌++◌, length, vec_capacity, Result, Err, ◌↔◌, IfOk, OnOk, OnErr}
 use Rattle.param_set.specs.declared.params.Params.{Params}
 use Rattle.instance_table.specs.declared.share.Share.{Share}
 use Rattle.party_roll.specs.declared.roll.Roll.{Ghosts}
@@ -16,7 +16,7 @@ use Rattle.session_state.specs.Parts.{setting_by}
 use Rattle.session_core.specs.Sessions.{Known, known_by, said, spare}
 use Rattle.session_core.specs.declared.session.Session.{Session}
 use Rattle.session_core.specs.declared.stop.Stop.{Stop}
-use Rattle.session_core.specs.declared.stop.Stop.TheVariants.{NoMemory}
+use Rattle.session_core.specs.declared.stop.Stop.TheVariants.{Spent, NoMemory}
 
 -- what never changes of a session: its roll, and what is known of it
 pub record About (R : Type 0) : Type 0 where
@@ -104,3 +104,13 @@ module _ {R : Type 0} {K : Ghosts R} where
     pub log : new.log.items ≡ old.log.items
     pub room : spare old.log ≤ spare new.log
     pub doubles : Doubles old new
+
+  -- how a call comes out, whatever it brings and hands back: what the session is about stays as it was; with a reply
+  -- the session has gone on as the rules say, and its polynomials are those that are then made; without one nothing
+  -- has changed; and Spent comes exactly where all calls are made
+  pub record Called {X : Type 0} (old new : Session R K) (result : Result X Stop) (said_in : X → Reply) (caller : ℕ) (c : Call) (b : Brought) : Type 0 where
+    pub about : about new ≡ about old
+    pub made : IfOk result (λ x. Made old new caller c (said_in x))
+    pub store : OnOk result (store_of new ≡ made_store old caller c b)
+    pub stopped : OnErr result (Stopped old new)
+    pub spent : (result ≡ Err Spent) ↔ IsSpent old

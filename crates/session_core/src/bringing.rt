@@ -1,10 +1,8 @@
-ghost use Rattle.std.specs.Prelude.{◌≡◌, ◌↔◌, IfOk, OnOk, OnErr, Err};
 ghost use Rattle.session_rules.specs.declared.call.Call.TheVariants as call;
 ghost use Rattle.session_rules.specs.declared.reply.Reply.TheVariants as reply;
 ghost use Rattle.session_spec.specs.Stores.{share_brought, cipher_brought};
 ghost use Rattle.session_core.specs.Sessions.{BringsShareTo, BringsInputTo};
-ghost use Rattle.session_core.specs.Calls.{about, known, brings, state_of, store_of, made_store, IsSpent, OnlyFor, Made, Stopped};
-ghost use Rattle.session_core.specs.declared.stop.Stop.TheVariants.{Spent};
+ghost use Rattle.session_core.specs.Calls.{known, brings, state_of, OnlyFor, Called};
 
 use crate::entries::plain_copy;
 use crate::{Session, Stop};
@@ -20,12 +18,8 @@ impl<R: Roll> Session<R> {
     /// that is counted has to be the honest one.
     pub fn deliver(&mut self, alloc: Global, caller: u32, share: &Share) -> Result<Reply, Stop>
         requires share { BringsShareTo (known self.old) (state_of self.old) share.now }
-        ensures about { about self.new ≡ about self.old }
-        ensures made { IfOk result (Made self.old self.new caller (brings share.now)) }
-        ensures store { OnOk result (store_of self.new
-            ≡ made_store self.old caller (brings share.now) (share_brought share.now.rows)) }
-        ensures stopped { OnErr result (Stopped self.old self.new) }
-        ensures spent { (result ≡ Err Spent) ↔ IsSpent self.old }
+        ensures called { Called self.old self.new result (λ r. r) caller (brings share.now)
+            (share_brought share.now.rows) }
         ensures free { OnlyFor reply.Completed self.old result caller (brings share.now) }
     {
         self.begin()?;
@@ -54,12 +48,8 @@ impl<R: Roll> Session<R> {
         ct: Ciphertext,
     ) -> Result<Reply, Stop>
         requires ct { BringsInputTo (known self.old) (state_of self.old) circuit input ct }
-        ensures about { about self.new ≡ about self.old }
-        ensures made { IfOk result (Made self.old self.new caller (call.Input circuit input)) }
-        ensures store { OnOk result (store_of self.new
-            ≡ made_store self.old caller (call.Input circuit input) (cipher_brought ct)) }
-        ensures stopped { OnErr result (Stopped self.old self.new) }
-        ensures spent { (result ≡ Err Spent) ↔ IsSpent self.old }
+        ensures called { Called self.old self.new result (λ r. r) caller (call.Input circuit input)
+            (cipher_brought ct) }
         ensures free { OnlyFor reply.Given self.old result caller (call.Input circuit input) }
     {
         self.begin()?;

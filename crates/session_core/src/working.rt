@@ -1,11 +1,10 @@
-ghost use Rattle.std.specs.Prelude.{◌≡◌, ◌≢◌, ◌↔◌, IfOk, OnOk, OnErr, Err};
+ghost use Rattle.std.specs.Prelude.{◌≢◌, IfOk};
 ghost use Rattle.session_rules.specs.declared.call.Call.TheVariants as call;
 ghost use Rattle.session_rules.specs.declared.reply.Reply.TheVariants as reply;
-ghost use Rattle.session_spec.specs.Stores.{cipher_brought};
+ghost use Rattle.session_spec.specs.Stores.{nothing_brought, cipher_brought};
 ghost use Rattle.session_core.specs.Sessions.{BringsOutputTo};
 ghost use Rattle.session_core.specs.Handing.{HandsJob};
-ghost use Rattle.session_core.specs.Calls.{about, known, state_of, store_of, made_store, At, IsSpent, OnlyFor, OnlyWhere, Made, Stopped};
-ghost use Rattle.session_core.specs.declared.stop.Stop.TheVariants.{Spent};
+ghost use Rattle.session_core.specs.Calls.{known, state_of, At, OnlyFor, OnlyWhere, Called};
 
 use crate::entries::plain_copy;
 use crate::{Session, Stop, Taking};
@@ -18,12 +17,9 @@ impl<R: Roll> Session<R> {
     /// Gives a caller the least circuit that is ready, with its inputs: Job, which alone takes memory, and Nothing
     /// where none is ready. The circuit is the caller's then.
     pub fn take(&mut self, alloc: Global, caller: u32) -> Result<Taking, Stop>
-        ensures about { about self.new ≡ about self.old }
-        ensures made { IfOk result (λ r. Made self.old self.new caller call.Take r.reply) }
-        ensures store { OnOk result (store_of self.new ≡ store_of self.old) }
+        ensures called { Called self.old self.new result (λ r. r.reply) caller call.Take
+            nothing_brought }
         ensures job { IfOk result (At HandsJob self.old) }
-        ensures stopped { OnErr result (Stopped self.old self.new) }
-        ensures spent { (result ≡ Err Spent) ↔ IsSpent self.old }
         ensures free { OnlyWhere (λ r. r ≢ reply.Nothing) self.old result caller call.Take }
     {
         self.begin()?;
@@ -46,12 +42,8 @@ impl<R: Roll> Session<R> {
         ct: Ciphertext,
     ) -> Result<Reply, Stop>
         requires ct { BringsOutputTo (known self.old) (state_of self.old) caller circuit ct }
-        ensures about { about self.new ≡ about self.old }
-        ensures made { IfOk result (Made self.old self.new caller (call.Finish circuit)) }
-        ensures store { OnOk result (store_of self.new
-            ≡ made_store self.old caller (call.Finish circuit) (cipher_brought ct)) }
-        ensures stopped { OnErr result (Stopped self.old self.new) }
-        ensures spent { (result ≡ Err Spent) ↔ IsSpent self.old }
+        ensures called { Called self.old self.new result (λ r. r) caller (call.Finish circuit)
+            (cipher_brought ct) }
         ensures free { OnlyFor reply.Finished self.old result caller (call.Finish circuit) }
     {
         self.begin()?;

@@ -26,8 +26,8 @@ parties-preserved g c =
     let k = c.parties.p-index in
     let there = one_there (map joins ps) joins ps k 0 c.args.session.now c.parties.session c.parties-test.true i.doing in
     record {
-      about = e.about ∙ i.about;
-      doing = calls_on (map joins ps) (map joins (drop (k + 1) ps)) (joins (get_or ps k 0)) (call.Join (get_or ps k 0)) _ c.args.session.now c.parties.session c.join.new.self there refl refl e.made;
+      about = e.called.about ∙ i.about;
+      doing = calls_on (map joins ps) (map joins (drop (k + 1) ps)) (joins (get_or ps k 0)) (call.Join (get_or ps k 0)) _ c.args.session.now c.parties.session c.join.new.self there refl refl e.called.made;
     }
 
 pub returns-clause-done : goal.returns-clause-done
@@ -46,4 +46,4 @@ returns-in_err-join-clause-stopped g c =
     let k = c.parties.p-index in
     let there = one_there (map joins ps) joins ps k 0 old mid c.parties-test.true i.doing in
     if_err c.from_residual.result _ (BrokeOff (map joins ps) old new) c.from_residual.ensures.1
-    (stops_on (map joins ps) (map joins (drop (k + 1) ps)) (joins (get_or ps k 0)) (call.Join (get_or ps k 0)) _ old mid new i.about there refl e.stopped (err_spent _ _ e.spent))
+    (stops_on (map joins ps) (map joins (drop (k + 1) ps)) (joins (get_or ps k 0)) (call.Join (get_or ps k 0)) _ old mid new i.about there refl e.called.stopped (err_spent _ _ e.called.spent))

@@ -71,9 +71,9 @@ places-preserved g c =
     let k = c.places.place-index in
     let place = get_or places k (0, 0) in
     record {
-      about = e.about ∙ i.about;
+      about = e.called.about ∙ i.about;
       doing = calls_on (map gives_at places) (map gives_at (drop (k + 1) places)) (gives_at place) (call.Input place.0 place.1) _ old mid c.input-in-places.new.self
-          (one_there (map gives_at places) gives_at places k (0, 0) old mid c.places-test.true i.doing) refl refl e.made;
+          (one_there (map gives_at places) gives_at places k (0, 0) old mid c.places-test.true i.doing) refl refl e.called.made;
     }
 
 pub returns-clause-done : goal.returns-clause-done
@@ -104,4 +104,4 @@ returns-in_err-input-clause-stopped g c =
     let place = get_or places k (0, 0) in
     if_err c.from_residual-in_err-input.result _ (BrokeOff (map gives_at places) old new) c.from_residual-in_err-input.ensures.1
     (stops_on (map gives_at places) (map gives_at (drop (k + 1) places)) (gives_at place) (call.Input place.0 place.1) _ old mid new i.about
-    (one_there (map gives_at places) gives_at places k (0, 0) old mid c.places-test.true i.doing) refl e.stopped (err_spent _ _ e.spent))
+    (one_there (map gives_at places) gives_at places k (0, 0) old mid c.places-test.true i.doing) refl e.called.stopped (err_spent _ _ e.called.spent))

@@ -24,11 +24,11 @@ use Rattle.lane_workers.proofs.sending.send.Goals.{in-List+in_ok-share_all+in-No
 
 pub share_all-requires-clause-party : goal.share_all-requires-clause-party
 share_all-requires-clause-party g c κs within =
-    subst (λ (z : Known). Acts g.P.Party z c.args.party.now) (sym (known_is c.args.session.now c.pending.new.self c.in_ok-listing.ensures.about)) c.requires.party
+    subst (λ (z : Known). Acts g.P.Party z c.args.party.now) (sym (known_is c.args.session.now c.pending.new.self c.in_ok-listing.ensures.called.about)) c.requires.party
 
 pub give_all-requires-clause-party : goal.give_all-requires-clause-party
 give_all-requires-clause-party g c κs within =
-    subst (λ (z : Known). Acts g.P.Party z c.args.party.now) (sym (known_is c.args.session.now c.share_all.new.session (c.in_ok-share_all.ensures.about ∙ c.in_ok-listing.ensures.about))) c.requires.party
+    subst (λ (z : Known). Acts g.P.Party z c.args.party.now) (sym (known_is c.args.session.now c.share_all.new.session (c.in_ok-share_all.ensures.about ∙ c.in_ok-listing.ensures.called.about))) c.requires.party
 
 pub give_all-requires-clause-own : goal.give_all-requires-clause-own
 give_all-requires-clause-own g c κs within =
@@ -36,8 +36,8 @@ give_all-requires-clause-own g c κs within =
     let old = c.args.session.now in
     let w = (known old).setting in
     let n = c.number.result in
-    let same = ap (λ (z : Known). z.setting) (known_is old c.share_all.new.session (c.in_ok-share_all.ensures.about ∙ b.about)) in
-    let inputs = listed_inputs (rules_for old) (state_behind old) 0 n c.in-List.ids c.in-List.inputs (sym b.made.reply ∙ c.in-List.is) in
+    let same = ap (λ (z : Known). z.setting) (known_is old c.share_all.new.session (c.in_ok-share_all.ensures.about ∙ b.called.about)) in
+    let inputs = listed_inputs (rules_for old) (state_behind old) 0 n c.in-List.ids c.in-List.inputs (sym b.called.made.reply ∙ c.in-List.is) in
     subst (λ (z : Setting). All (OwnsPlace z (g.P.Party.number c.args.party.now)) c.as_slice-in-Some.result.now) (sym same)
     (subst (λ (z : ℕ). All (OwnsPlace w z) c.as_slice-in-Some.result.now) c.number.ensures
     (subst (λ (z : List (ℕ × ℕ)). All (OwnsPlace w n) z) (sym (c.as_slice-in-Some.ensures ∙ inputs)) (owed_own w (state_behind old) n)))
@@ -50,13 +50,13 @@ give_all-requires-clause-key g c κs within =
     let mid = c.pending.new.self in
     let sh = c.share_all.new.session in
     let k = known old in
-    let same = known_is old sh (e.about ∙ b.about) in
+    let same = known_is old sh (e.about ∙ b.called.about) in
     let o = c.in_ok-listing.listing.key in
     let arc = c.in-Some.key in
     let is = c.in-Some.is in
     let key = c.deref.result.now in
     let complete : has_done Pk (state_of old).instances ≡ true = held_done k.setting (store_of old) (state_of old).instances arc.value (sym b.key.held ∙ ap shared_if is) in
-    let log = two_more old.log.items mid.log.items sh.log.items _ e.done.made b.made.log e.done.log in
+    let log = two_more old.log.items mid.log.items sh.log.items _ e.done.made b.called.made.log e.done.log in
     let setting_is = ap (λ (z : Known). z.setting) same in
     subst (λ (z : Known). IsKey z (state_of sh) key) (sym same) (record {
       complete = done_later k.setting (known sh).setting (state_of old) (state_of sh) old.log.items sh.log.items _ setting_is old.state_is sh.state_is log complete;
@@ -82,9 +82,9 @@ returns-clause-done g c =
           let sh = w.share_all.new.session in
           let ids = w.in-List.ids in
           let inputs = w.in-List.inputs in
-          let none : inputs ≡ [] = listed_inputs (rules_for old) (state_behind old) 0 n ids inputs (sym b.made.reply ∙ w.in-List.is) ∙ ap (λ (z : State). owed_inputs (rules_for old) z n) (sym old.state_is)
+          let none : inputs ≡ [] = listed_inputs (rules_for old) (state_behind old) 0 n ids inputs (sym b.called.made.reply ∙ w.in-List.is) ∙ ap (λ (z : State). owed_inputs (rules_for old) z n) (sym old.state_is)
           ∙ no_inputs k.setting (store_of old) (rules_for old) (state_of old) n (sym b.key.held ∙ ap shared_if w.in-None.is) in
-          let shared = does_on ts (map (shares p) ids) [] (map gives_at inputs) old mid sh b.about (lists_owed n p r ids inputs old mid c.number.ensures b.made w.in-List.is)
+          let shared = does_on ts (map (shares p) ids) [] (map gives_at inputs) old mid sh b.called.about (lists_owed n p r ids inputs old mid c.number.ensures b.called.made w.in-List.is)
           (subst (λ (z : List ℕ). Did (map (shares p) z) mid sh) w.as_slice.ensures e.done) in
           rw w.session-is (subst (λ (z : List (ℕ × ℕ)). Doing ts (map gives_at z) old sh) none shared)
       | in-List+in_ok-share_all+in-Some+in_ok-give_all-in-Some w ↦
@@ -93,11 +93,11 @@ returns-clause-done g c =
           let new = w.give_all.new.session in
           let ids = w.in-List.ids in
           let inputs = w.in-List.inputs in
-          let shared = does_on ts (map (shares p) ids) [] (map gives_at inputs) old mid sh b.about (lists_owed n p r ids inputs old mid c.number.ensures b.made w.in-List.is)
+          let shared = does_on ts (map (shares p) ids) [] (map gives_at inputs) old mid sh b.called.about (lists_owed n p r ids inputs old mid c.number.ensures b.called.made w.in-List.is)
           (subst (λ (z : List ℕ). Did (map (shares p) z) mid sh) w.as_slice.ensures e.done) in
-          rw w.session-is (does_rest ts (map gives_at inputs) old sh new (e.about ∙ b.about) shared
+          rw w.session-is (does_rest ts (map gives_at inputs) old sh new (e.about ∙ b.called.about) shared
           (subst (λ (z : List (ℕ × ℕ)). Did (map gives_at z) sh new) w.as_slice-in-Some.ensures w.in_ok-give_all-in-Some.ensures.done))
-      | in_default w ↦ rw w.session-is (no_lists_owed n p r old mid c.number.ensures b.made w.in_default.not-List)
+      | in_default w ↦ rw w.session-is (no_lists_owed n p r old mid c.number.ensures b.called.made w.in_default.not-List)
     ]
 
 pub returns-in_err-listing-clause-stopped : goal.returns-in_err-listing-clause-stopped
@@ -107,7 +107,7 @@ returns-in_err-listing-clause-stopped g c =
     let e = c.in_err-listing.ensures in
     let p = g.P.Party.number c.args.party.now in
     if_err c.from_residual.result _ (BrokeOff (sends p ∷ []) old new) c.from_residual.ensures.1
-    (stops_on (sends p ∷ []) [] (sends p) (call.Pending p) _ old old new refl (begins (sends p ∷ []) old) refl e.stopped (err_spent _ _ e.spent))
+    (stops_on (sends p ∷ []) [] (sends p) (call.Pending p) _ old old new refl (begins (sends p ∷ []) old) refl e.called.stopped (err_spent _ _ e.called.spent))
 
 pub returns-in_err-share_all-clause-stopped : goal.returns-in_err-share_all-clause-stopped
 returns-in_err-share_all-clause-stopped g c =
@@ -118,9 +118,9 @@ returns-in_err-share_all-clause-stopped g c =
     let p = g.P.Party.number c.args.party.now in
     let ids = c.in-List.ids in
     let inputs = c.in-List.inputs in
-    let owed = lists_owed c.number.result p c.in_ok-listing.listing.reply ids inputs old mid c.number.ensures b.made c.in-List.is in
+    let owed = lists_owed c.number.result p c.in_ok-listing.listing.reply ids inputs old mid c.number.ensures b.called.made c.in-List.is in
     if_err c.from_residual-in_err-share_all.result _ (BrokeOff (sends p ∷ []) old new) c.from_residual-in_err-share_all.ensures.1
-    (stops_in (sends p ∷ []) (map (shares p) ids) (map gives_at inputs) _ old mid new b.about owed
+    (stops_in (sends p ∷ []) (map (shares p) ids) (map gives_at inputs) _ old mid new b.called.about owed
     (subst (λ (z : List ℕ). BrokeOff (map (shares p) z) mid new c.in_err-share_all.field-0.0) c.as_slice.ensures c.in_err-share_all.ensures.stopped))
 
 pub returns-in_err-give_all-in-Some-clause-stopped : goal.returns-in_err-give_all-in-Some-clause-stopped
@@ -135,8 +135,8 @@ returns-in_err-give_all-in-Some-clause-stopped g c =
     let ts = sends p ∷ [] in
     let ids = c.in-List.ids in
     let inputs = c.in-List.inputs in
-    let owed = lists_owed c.number.result p c.in_ok-listing.listing.reply ids inputs old mid c.number.ensures b.made c.in-List.is in
-    let shared = does_on ts (map (shares p) ids) [] (map gives_at inputs) old mid sh b.about owed (subst (λ (z : List ℕ). Did (map (shares p) z) mid sh) c.as_slice.ensures e.done) in
+    let owed = lists_owed c.number.result p c.in_ok-listing.listing.reply ids inputs old mid c.number.ensures b.called.made c.in-List.is in
+    let shared = does_on ts (map (shares p) ids) [] (map gives_at inputs) old mid sh b.called.about owed (subst (λ (z : List ℕ). Did (map (shares p) z) mid sh) c.as_slice.ensures e.done) in
     if_err c.from_residual-in_err-give_all-in-Some.result _ (BrokeOff ts old new) c.from_residual-in_err-give_all-in-Some.ensures.1
-    (stops_rest ts (map gives_at inputs) _ old sh new (e.about ∙ b.about) shared
+    (stops_rest ts (map gives_at inputs) _ old sh new (e.about ∙ b.called.about) shared
     (subst (λ (z : List (ℕ × ℕ)). BrokeOff (map gives_at z) sh new c.in_err-give_all-in-Some.field-0.0) c.as_slice-in-Some.ensures c.in_err-give_all-in-Some.ensures.stopped))

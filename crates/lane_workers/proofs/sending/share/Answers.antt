@@ -35,9 +35,9 @@ deliver-requires-clause-share g c κs within =
     let a = c.deref.result.now in
     let key = key_in k.setting k.seeds (state_of old).instances in
     let its = handed k (state_of old) (store_of old) id c.in_ok-briefing.briefing c.in-Some.brief a b.brief c.in-Some.is c.deref.ensures in
-    let number = brief_number (rules_for old) old.log.items id (state_of old) k.params (store_of old) a c.in_ok-briefing.briefing.reply old.state_is b.made.reply its.goes its.told in
-    let states : state_of mid ≡ state_of old = b.made.state ∙ brief_stays (rules_for old) (state_behind old) 0 id ∙ sym old.state_is in
-    subst (λ (z : Known). BringsShareTo z (state_of mid) share) (sym (known_is old mid b.about))
+    let number = brief_number (rules_for old) old.log.items id (state_of old) k.params (store_of old) a c.in_ok-briefing.briefing.reply old.state_is b.called.made.reply its.goes its.told in
+    let states : state_of mid ≡ state_of old = b.called.made.state ∙ brief_stays (rules_for old) (state_behind old) 0 id ∙ sym old.state_is in
+    subst (λ (z : Known). BringsShareTo z (state_of mid) share) (sym (known_is old mid b.called.about))
     (subst (λ (z : State). BringsShareTo k z share) (sym states) (record {
       fits = subst (λ (z : Params). All (IsPoly z.q z.n) share.rows) c.requires.ring e.fit;
       few = omega (arith, e.rows ∙ made_rows a.signature _ its.made.made);
@@ -68,16 +68,16 @@ returns-clause-done g c =
           let new = w.deliver.new.self in
           let d = w.in_ok-deliver-in-Some.ensures in
           let its = handed k (state_of old) (store_of old) id c.in_ok-briefing.briefing w.in-Some.brief a b.brief w.in-Some.is w.deref.ensures in
-          let number = brief_number (rules_for old) old.log.items id (state_of old) k.params (store_of old) a r old.state_is b.made.reply its.goes its.told in
+          let number = brief_number (rules_for old) old.log.items id (state_of old) k.params (store_of old) a r old.state_is b.called.made.reply its.goes its.told in
           let held = share_for l p id a.signature in
           let long : length share.rows ≡ rows_of a.signature l = e.rows ∙ rw c.requires.ring refl ∙ ap (rows_of a.signature) (sym (rules_rows k.setting)) in
           let it : brings share ≡ delivery held = rw (e.id ∙ number, e.party, long) refl in
-          let one = share_owed p id r a.signature old mid b.made (ap briefed its.goes) in
-          rw w.session-is (calls_on (shares p id ∷ []) [] (delivers held) (delivery held) w.in_ok-deliver-in-Some.field-0 old mid new one refl refl (subst (λ (z : Call). Made mid new 0 z w.in_ok-deliver-in-Some.field-0) it d.made))
+          let one = share_owed p id r a.signature old mid b.called.made (ap briefed its.goes) in
+          rw w.session-is (calls_on (shares p id ∷ []) [] (delivers held) (delivery held) w.in_ok-deliver-in-Some.field-0 old mid new one refl refl (subst (λ (z : Call). Made mid new 0 z w.in_ok-deliver-in-Some.field-0) it d.called.made))
       | in-None w ↦
-          let quiet : briefed r ≡ None = ap briefed b.made.reply
+          let quiet : briefed r ≡ None = ap briefed b.called.made.reply
           ∙ silent (rules_for old) (state_behind old) id (λ i e alive. b.brief.there i (subst (λ (z : State). instance z.instances id ≡ Some i) (sym old.state_is) e) alive w.in-None.is) in
-          rw w.session-is (no_share_owed p id r old mid b.made quiet)
+          rw w.session-is (no_share_owed p id r old mid b.called.made quiet)
     ]
 
 pub returns-in_err-briefing-clause-stopped : goal.returns-in_err-briefing-clause-stopped
@@ -87,7 +87,7 @@ returns-in_err-briefing-clause-stopped g c =
     let e = c.in_err-briefing.ensures in
     let one = shares (g.P.Party.number c.args.party.now) c.args.id in
     if_err c.from_residual.result _ (BrokeOff (one ∷ []) old new) c.from_residual.ensures.1
-    (stops_on (one ∷ []) [] one (call.Brief c.args.id) _ old old new refl (begins (one ∷ []) old) refl e.stopped (err_spent _ _ e.spent))
+    (stops_on (one ∷ []) [] one (call.Brief c.args.id) _ old old new refl (begins (one ∷ []) old) refl e.called.stopped (err_spent _ _ e.called.spent))
 
 pub returns-in_err-share-in-Some-clause-stopped : goal.returns-in_err-share-in-Some-clause-stopped
 returns-in_err-share-in-Some-clause-stopped g c =
@@ -99,7 +99,7 @@ returns-in_err-share-in-Some-clause-stopped g c =
     let a = c.deref.result.now in
     let its = handed (known old) (state_of old) (store_of old) id c.in_ok-briefing.briefing c.in-Some.brief a b.brief c.in-Some.is c.deref.ensures in
     let held = share_for (rules_for old).rows p id a.signature in
-    let owed = share_owed p id c.in_ok-briefing.briefing.reply a.signature old mid b.made (ap briefed its.goes) in
+    let owed = share_owed p id c.in_ok-briefing.briefing.reply a.signature old mid b.called.made (ap briefed its.goes) in
     if_err c.from_residual-in_err-share-in-Some.result NoMemory (BrokeOff (shares p id ∷ []) old mid) c.from_residual-in_err-share-in-Some.ensures.1
     (lacks_on (shares p id ∷ []) [] (delivers held) (delivery held) NoMemory old mid owed refl refl refl)
 
@@ -115,6 +115,6 @@ returns-in_err-deliver-in-Some-clause-stopped g c =
     let a = c.deref.result.now in
     let its = handed (known old) (state_of old) (store_of old) id c.in_ok-briefing.briefing c.in-Some.brief a b.brief c.in-Some.is c.deref.ensures in
     let held = share_for (rules_for old).rows p id a.signature in
-    let owed = share_owed p id c.in_ok-briefing.briefing.reply a.signature old mid b.made (ap briefed its.goes) in
+    let owed = share_owed p id c.in_ok-briefing.briefing.reply a.signature old mid b.called.made (ap briefed its.goes) in
     if_err c.from_residual-in_err-deliver-in-Some.result _ (BrokeOff (shares p id ∷ []) old new) c.from_residual-in_err-deliver-in-Some.ensures.1
-    (stops_on (shares p id ∷ []) [] (delivers held) (delivery held) _ old mid new b.about owed refl e.stopped (err_spent _ _ e.spent))
+    (stops_on (shares p id ∷ []) [] (delivers held) (delivery held) _ old mid new b.called.about owed refl e.called.stopped (err_spent _ _ e.called.spent))

@@ -33,8 +33,8 @@ finish-requires-clause-ct g c κs within =
     let e : o ≡ Some j = let x = c.in_ok-job.job-is in let y = c.in-Some.is in cc in
     let ct = c.in_ok-ct-in-Some.ct in
     let its = at_some (λ (z : Job). IsJobFor k.setting (store_of old) z.number z) o j e b.job.circuit in
-    let stays = ap (λ (z : State). z.instances) b.made.state ∙ take_issues (rules_for old) (state_behind old) ∙ ap (λ (z : State). z.instances) (sym old.state_is) in
-    subst (λ (z : Known). BringsOutputTo z (state_of mid) 0 j.number ct) (sym (known_is old mid b.about)) (record {
+    let stays = ap (λ (z : State). z.instances) b.called.made.state ∙ take_issues (rules_for old) (state_behind old) ∙ ap (λ (z : State). z.instances) (sym old.state_is) in
+    subst (λ (z : Known). BringsOutputTo z (state_of mid) 0 j.number ct) (sym (known_is old mid b.called.about)) (record {
       fits = subst (λ (z : Params). CipherFits z.q z.n ct) c.requires.ring c.in_ok-ct-in-Some.ensures.fits;
       honest = λ t done.
           let inputs = at_some (λ (z : Job). z.inputs ≡ inputs_of k.setting k.seeds (key_in k.setting k.seeds (state_of old).instances) z.number) o j e (b.job.honest t) in
@@ -49,7 +49,7 @@ returns-in-None-clause-done g c =
     let mid = c.take.new.self in
     let r = c.in_ok-job.field-0.reply in
     let e : c.in_ok-job.field-0.job ≡ None = let x = c.in_ok-job.job-is in let y = c.in-None.is in cc in
-    record { does = no_job_owed r old old mid (begins (exhausts ∷ []) old) b.made (ap job (b.job.none e)); fewer = λ never. cc }
+    record { does = no_job_owed r old old mid (begins (exhausts ∷ []) old) b.called.made (ap job (b.job.none e)); fewer = λ never. cc }
 
 pub returns-in_ok-finish-in-Some-clause-done : goal.returns-in_ok-finish-in-Some-clause-done
 returns-in_ok-finish-in-Some-clause-done g c =
@@ -63,15 +63,15 @@ returns-in_ok-finish-in-Some-clause-done g c =
     let o = c.in_ok-job.field-0.job in
     let e : o ≡ Some j = let x = c.in_ok-job.job-is in let y = c.in-Some.is in cc in
     let it : job r ≡ Some j.number = ap job (at_some (λ (z : Job). r ≡ reply.Job z.number) o j e b.job.job) in
-    let one = job_owed j.number r old old mid (begins (exhausts ∷ []) old) b.made it in
-    let same = ap (λ (z : Known). rules z.setting) (known_is old mid b.about) in
+    let one = job_owed j.number r old old mid (begins (exhausts ∷ []) old) b.called.made it in
+    let same = ap (λ (z : Known). rules z.setting) (known_is old mid b.called.about) in
     let f = rules_for old in
     let finished : state_of new ≡ (step f (state_of mid) 0 (call.Finish j.number)).1 =
-    d.made.state ∙ ap (λ (z : State). (step (rules_for mid) z 0 (call.Finish j.number)).1) (sym mid.state_is) ∙ ap (λ (z : Fixed). (step z (state_of mid) 0 (call.Finish j.number)).1) same in
-    let taken : state_of mid ≡ (step f (state_of old) 0 call.Take).1 = b.made.state ∙ ap (λ (z : State). (step f z 0 call.Take).1) (sym old.state_is) in
-    let answered : job (step f (state_of old) 0 call.Take).0 ≡ Some j.number = ap (λ (z : State). job (step f z 0 call.Take).0) old.state_is ∙ ap job (sym b.made.reply) ∙ it in
+    d.called.made.state ∙ ap (λ (z : State). (step (rules_for mid) z 0 (call.Finish j.number)).1) (sym mid.state_is) ∙ ap (λ (z : Fixed). (step z (state_of mid) 0 (call.Finish j.number)).1) same in
+    let taken : state_of mid ≡ (step f (state_of old) 0 call.Take).1 = b.called.made.state ∙ ap (λ (z : State). (step f z 0 call.Take).1) (sym old.state_is) in
+    let answered : job (step f (state_of old) 0 call.Take).0 ≡ Some j.number = ap (λ (z : State). job (step f z 0 call.Take).0) old.state_is ∙ ap job (sym b.called.made.reply) ∙ it in
     record {
-      does = calls_on (exhausts ∷ []) (exhausts ∷ []) (finishes j.number) (call.Finish j.number) _ old mid new one refl refl d.made;
+      does = calls_on (exhausts ∷ []) (exhausts ∷ []) (finishes j.number) (call.Finish j.number) _ old mid new one refl refl d.called.made;
       fewer = λ more. fewer_idle f (state_of old) (state_of mid) (state_of new) j.number answered taken finished;
     }
 
@@ -81,7 +81,7 @@ returns-in_err-job-clause-stopped g c =
     let new = c.take.new.self in
     let e = c.in_err-job.ensures in
     if_err c.from_residual.result _ (BrokeOff (exhausts ∷ []) old new) c.from_residual.ensures.1
-    (stops_on (exhausts ∷ []) [] exhausts call.Take _ old old new refl (begins (exhausts ∷ []) old) refl e.stopped (err_spent _ _ e.spent))
+    (stops_on (exhausts ∷ []) [] exhausts call.Take _ old old new refl (begins (exhausts ∷ []) old) refl e.called.stopped (err_spent _ _ e.called.spent))
 
 pub returns-in_err-ct-in-Some-clause-stopped : goal.returns-in_err-ct-in-Some-clause-stopped
 returns-in_err-ct-in-Some-clause-stopped g c =
@@ -93,7 +93,7 @@ returns-in_err-ct-in-Some-clause-stopped g c =
     let o = c.in_ok-job.field-0.job in
     let e : o ≡ Some j = let x = c.in_ok-job.job-is in let y = c.in-Some.is in cc in
     let it : job r ≡ Some j.number = ap job (at_some (λ (z : Job). r ≡ reply.Job z.number) o j e b.job.job) in
-    let owed = job_owed j.number r old old mid (begins (exhausts ∷ []) old) b.made it in
+    let owed = job_owed j.number r old old mid (begins (exhausts ∷ []) old) b.called.made it in
     if_err c.from_residual-in_err-ct-in-Some.result NoMemory (BrokeOff (exhausts ∷ []) old mid) c.from_residual-in_err-ct-in-Some.ensures.1
     (lacks_on (exhausts ∷ []) (exhausts ∷ []) (finishes j.number) (call.Finish j.number) NoMemory old mid owed refl refl refl)
 
@@ -109,6 +109,6 @@ returns-in_err-finish-in-Some-clause-stopped g c =
     let o = c.in_ok-job.field-0.job in
     let e : o ≡ Some j = let x = c.in_ok-job.job-is in let y = c.in-Some.is in cc in
     let it : job r ≡ Some j.number = ap job (at_some (λ (z : Job). r ≡ reply.Job z.number) o j e b.job.job) in
-    let owed = job_owed j.number r old old mid (begins (exhausts ∷ []) old) b.made it in
+    let owed = job_owed j.number r old old mid (begins (exhausts ∷ []) old) b.called.made it in
     if_err c.from_residual-in_err-finish-in-Some.result _ (BrokeOff (exhausts ∷ []) old new) c.from_residual-in_err-finish-in-Some.ensures.1
-    (stops_on (exhausts ∷ []) (exhausts ∷ []) (finishes j.number) (call.Finish j.number) _ old mid new b.about owed refl d.stopped (err_spent _ _ d.spent))
+    (stops_on (exhausts ∷ []) (exhausts ∷ []) (finishes j.number) (call.Finish j.number) _ old mid new b.called.about owed refl d.called.stopped (err_spent _ _ d.called.spent))

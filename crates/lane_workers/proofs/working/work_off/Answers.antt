@@ -61,8 +61,8 @@ returns-clause-done g c =
     let over = c.jobs-test.false in
     let none : idle (state_of mid) ≡ 0 = omega (arith, few, over) in
     let r = c.in_ok-take.field-0.reply in
-    let quiet : job r ≡ None = ap job e.made.reply ∙ ap (λ (z : State). job (step (rules_for mid) z 0 call.Take).0) (sym mid.state_is) ∙ no_job (rules_for mid) (state_of mid) none in
-    no_job_owed r old mid new i.doing e.made quiet
+    let quiet : job r ≡ None = ap job e.called.made.reply ∙ ap (λ (z : State). job (step (rules_for mid) z 0 call.Take).0) (sym mid.state_is) ∙ no_job (rules_for mid) (state_of mid) none in
+    no_job_owed r old mid new i.doing e.called.made quiet
 
 pub returns-in_err-work-clause-stopped : goal.returns-in_err-work-clause-stopped
 returns-in_err-work-clause-stopped g c =
@@ -79,4 +79,4 @@ returns-in_err-take-clause-stopped g c =
     let old = c.args.session.now in
     let new = c.take.new.self in
     if_err c.from_residual-in_err-take.result _ (BrokeOff (exhausts ∷ []) old new) c.from_residual-in_err-take.ensures.1
-    (stops_on (exhausts ∷ []) [] exhausts call.Take _ old c.jobs.session new i.about i.doing refl e.stopped (err_spent _ _ e.spent))
+    (stops_on (exhausts ∷ []) [] exhausts call.Take _ old c.jobs.session new i.about i.doing refl e.called.stopped (err_spent _ _ e.called.spent))

@@ -5,9 +5,10 @@ use Rattle.session_rules.specs.Deeds.{done, changed}
 use Rattle.session_rules.specs.Steps.{judge, step}
 use Rattle.session_spec.specs.Stores.{nothing_brought, with_deed, store_done}
 use Rattle.session_core.proofs.Handed.{made_of, polys_of_if}
+use Rattle.session_state.specs.declared.handed.Briefing.{Briefing}
 use Rattle.session_state.specs.Handed.{is_brief}
 use Rattle.session_state.specs.Standings.{setting, state, store}
-use Rattle.session_core.proofs.Going.{stands_in, goes_on, made, reply_is}
+use Rattle.session_core.proofs.Going.{stands_in, goes_on, called, reply_is}
 use Rattle.session_core.proofs.session.Session.brief.Goals as goal
 
 pub invariant_of-self : goal.invariant_of-self
@@ -20,12 +21,14 @@ invariant_of-self g c =
     c.push_reserved.ensures.items in
     record { public_is = x.public_is; legal = x.legal; state_is = x.state_is; sound = x.sound }
 
-pub returns-clause-made : goal.returns-clause-made
+pub returns-clause-called : goal.returns-clause-called
 unfolding judge step done changed store_done with_deed
-returns-clause-made g c =
-    let s = c.begin.new.self in let st = s.standing in let ok = c.in_ok-briefing.ensures in let b = c.begin.ensures in let push = c.push_reserved.ensures in
-    made c.args.self.now s _ c.args.caller (call.Brief c.args.id) _ _ nothing_brought c.plain_copy.ensures b.waits b.doubles c.in_ok-begin.ensures.room
-    (record { setting = refl; params = refl; reply = ok.reply; state = refl; store = refl }) (push.items) push.len push.capacity
+returns-clause-called g c =
+    let s = c.begin.new.self in let ok = c.in_ok-briefing.ensures in let b = c.begin.ensures in let begun = c.in_ok-begin.ensures in let push = c.push_reserved.ensures in
+    called (λ (r : Briefing). r.reply) c.args.self.now s _ _ c.args.caller (call.Brief c.args.id) c.plain_copy.result nothing_brought c.plain_copy.ensures
+    (record { waits = b.waits; doubles = b.doubles; room = begun.room; more = begun.more })
+    (record { setting = refl; params = refl; reply = ok.reply; state = refl; store = refl })
+    (record { roll = refl; most = refl; items = push.items; len = push.len; capacity = push.capacity })
 
 pub returns-in_err-briefing-clause-free : goal.returns-in_err-briefing-clause-free
 unfolding judge step

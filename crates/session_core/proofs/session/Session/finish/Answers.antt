@@ -1,13 +1,14 @@
 -- The history goes on by the call, and the polynomials stay honest.
-use Rattle.std.proofs.Common.{◌∙◌}
+use Rattle.std.proofs.Common.{◌∙◌, refl}
 use Rattle.session_rules.specs.declared.call.Call.TheVariants as call
+use Rattle.session_rules.specs.declared.reply.Reply.{Reply}
 use Rattle.session_rules.specs.Steps.{judge, step}
 use Rattle.session_spec.specs.Stores.{cipher_brought}
 use Rattle.session_laws.proofs.Calls.{outputs_are_brought}
 use Rattle.session_state.specs.Standings.{setting, state}
 use Rattle.session_core.specs.Sessions.{BringsOutputTo}
 use Rattle.session_core.specs.Calls.{known}
-use Rattle.session_core.proofs.Going.{goes_on, made, store_made, reply_is}
+use Rattle.session_core.proofs.Going.{goes_on, called, reply_is}
 use Rattle.session_core.proofs.session.Session.finish.Goals as goal
 
 pub invariant_of-self-2 : goal.invariant_of-self-2
@@ -21,16 +22,14 @@ invariant_of-self-2 g c =
     c.push_reserved.ensures.items in
     record { public_is = x.public_is; legal = x.legal; state_is = x.state_is; sound = x.sound }
 
-pub returns-clause-made : goal.returns-clause-made
+pub returns-clause-called : goal.returns-clause-called
 unfolding judge step
-returns-clause-made g c =
-    let s = c.begin.new.self in let st = s.standing in let ok = c.in_ok-reply.ensures in let b = c.begin.ensures in let push = c.push_reserved.ensures in
-    made c.args.self.now s _ c.args.caller (call.Finish c.args.circuit) _ _ (cipher_brought c.args.ct) c.plain_copy.ensures b.waits b.doubles c.in_ok-begin.ensures.room
-    (record { setting = ok.setting; params = ok.params; reply = ok.reply; state = ok.state; store = ok.store }) (push.items) push.len push.capacity
-
-pub returns-clause-store : goal.returns-clause-store
-unfolding judge step
-returns-clause-store g c = store_made c.args.self.now c.begin.new.self c.args.caller (call.Finish c.args.circuit) (cipher_brought c.args.ct) _ c.begin.ensures.waits c.in_ok-reply.ensures.store
+returns-clause-called g c =
+    let s = c.begin.new.self in let ok = c.in_ok-reply.ensures in let b = c.begin.ensures in let begun = c.in_ok-begin.ensures in let push = c.push_reserved.ensures in
+    called (λ (r : Reply). r) c.args.self.now s _ _ c.args.caller (call.Finish c.args.circuit) c.plain_copy.result (cipher_brought c.args.ct) c.plain_copy.ensures
+    (record { waits = b.waits; doubles = b.doubles; room = begun.room; more = begun.more })
+    (record { setting = ok.setting; params = ok.params; reply = ok.reply; state = ok.state; store = ok.store })
+    (record { roll = refl; most = refl; items = push.items; len = push.len; capacity = push.capacity })
 
 pub returns-in_err-reply-clause-free : goal.returns-in_err-reply-clause-free
 unfolding judge step

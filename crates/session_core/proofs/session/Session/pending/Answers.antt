@@ -4,12 +4,13 @@ use Rattle.session_rules.specs.declared.call.Call.TheVariants as call
 use Rattle.session_rules.specs.Deeds.{done, changed}
 use Rattle.session_rules.specs.Steps.{judge, step}
 use Rattle.session_spec.specs.Stores.{nothing_brought, with_deed, store_done}
+use Rattle.session_state.specs.declared.handed.Listing.{Listing}
 use Rattle.session_state.specs.Handed.{is_list}
 use Rattle.session_core.specs.Handing.{ListsOrKey}
 use Rattle.session_core.specs.Calls.{At}
 use Rattle.session_core.proofs.Handed.{key_if, fits_if}
 use Rattle.session_state.specs.Standings.{setting, state, store}
-use Rattle.session_core.proofs.Going.{stands_in, goes_on, made, reply_is}
+use Rattle.session_core.proofs.Going.{stands_in, goes_on, called, reply_is}
 use Rattle.session_core.proofs.session.Session.pending.Goals as goal
 
 pub invariant_of-self : goal.invariant_of-self
@@ -22,12 +23,14 @@ invariant_of-self g c =
     c.push_reserved.ensures.items in
     record { public_is = x.public_is; legal = x.legal; state_is = x.state_is; sound = x.sound }
 
-pub returns-clause-made : goal.returns-clause-made
+pub returns-clause-called : goal.returns-clause-called
 unfolding judge step done changed store_done with_deed
-returns-clause-made g c =
-    let s = c.begin.new.self in let st = s.standing in let ok = c.in_ok-listing.ensures in let b = c.begin.ensures in let push = c.push_reserved.ensures in
-    made c.args.self.now s _ c.args.caller (call.Pending c.args.p) _ _ nothing_brought c.in_ok-reply.ensures.same b.waits b.doubles c.in_ok-begin.ensures.room
-    (record { setting = refl; params = refl; reply = ok.reply; state = refl; store = refl }) (push.items) push.len push.capacity
+returns-clause-called g c =
+    let s = c.begin.new.self in let ok = c.in_ok-listing.ensures in let b = c.begin.ensures in let begun = c.in_ok-begin.ensures in let push = c.push_reserved.ensures in
+    called (λ (r : Listing). r.reply) c.args.self.now s _ _ c.args.caller (call.Pending c.args.p) c.in_ok-reply.reply nothing_brought c.in_ok-reply.ensures.same
+    (record { waits = b.waits; doubles = b.doubles; room = begun.room; more = begun.more })
+    (record { setting = refl; params = refl; reply = ok.reply; state = refl; store = refl })
+    (record { roll = refl; most = refl; items = push.items; len = push.len; capacity = push.capacity })
 
 pub returns-in_err-listing-clause-free : goal.returns-in_err-listing-clause-free
 unfolding judge step

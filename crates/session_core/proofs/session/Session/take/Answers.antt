@@ -1,13 +1,13 @@
 -- The history goes on by the call, and the polynomials stay honest.
-use Rattle.std.proofs.Common.{◌∙◌, sym, ap}
+use Rattle.std.proofs.Common.{◌∙◌, sym, refl}
 use Rattle.session_rules.specs.declared.call.Call.TheVariants as call
 use Rattle.session_rules.specs.Steps.{judge, step}
 use Rattle.session_spec.specs.Stores.{nothing_brought}
-use Rattle.session_state.specs.declared.standing.Standing.{Standing}
+use Rattle.session_state.specs.declared.handed.Taking.{Taking}
 use Rattle.session_state.specs.Standings.{setting, rules_of, state, store}
-use Rattle.session_core.proofs.Brought.{take_brings, take_leaves}
+use Rattle.session_core.proofs.Brought.{take_brings}
 use Rattle.session_core.proofs.Handed.{inputs_if}
-use Rattle.session_core.proofs.Going.{stands_in, goes_on, made, reply_is}
+use Rattle.session_core.proofs.Going.{stands_in, goes_on, called, reply_is}
 use Rattle.session_core.proofs.session.Session.take.Goals as goal
 
 pub invariant_of-self-2 : goal.invariant_of-self-2
@@ -20,17 +20,14 @@ invariant_of-self-2 g c =
     c.push_reserved.ensures.items in
     record { public_is = x.public_is; legal = x.legal; state_is = x.state_is; sound = x.sound }
 
-pub returns-clause-made : goal.returns-clause-made
+pub returns-clause-called : goal.returns-clause-called
 unfolding judge step
-returns-clause-made g c =
-    let s = c.begin.new.self in let st = s.standing in let ok = c.in_ok-taking.ensures in let b = c.begin.ensures in let push = c.push_reserved.ensures in
-    made c.args.self.now s _ c.args.caller call.Take _ _ nothing_brought c.plain_copy.ensures b.waits b.doubles c.in_ok-begin.ensures.room
-    (record { setting = ok.setting; params = ok.params; reply = ok.reply; state = ok.state; store = ok.store }) (push.items) push.len push.capacity
-
-pub returns-clause-store : goal.returns-clause-store
-returns-clause-store g c =
-    let st = c.begin.new.self.standing in
-    c.in_ok-taking.ensures.store ∙ take_leaves (setting st) (rules_of st) (state st) c.args.caller nothing_brought _ (store st) ∙ ap (λ (z : Standing). store z) c.begin.ensures.waits.standing
+returns-clause-called g c =
+    let s = c.begin.new.self in let ok = c.in_ok-taking.ensures in let b = c.begin.ensures in let begun = c.in_ok-begin.ensures in let push = c.push_reserved.ensures in
+    called (λ (r : Taking). r.reply) c.args.self.now s _ _ c.args.caller call.Take c.plain_copy.result nothing_brought c.plain_copy.ensures
+    (record { waits = b.waits; doubles = b.doubles; room = begun.room; more = begun.more })
+    (record { setting = ok.setting; params = ok.params; reply = ok.reply; state = ok.state; store = ok.store })
+    (record { roll = refl; most = refl; items = push.items; len = push.len; capacity = push.capacity })
 
 pub returns-in_err-taking-clause-free : goal.returns-in_err-taking-clause-free
 unfolding judge step
