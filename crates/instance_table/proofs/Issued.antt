@@ -13,7 +13,8 @@ use Rattle.proto_names.specs.Names.{rows_of}
 use Rattle.proto_names.specs.Instances.{id_of, fresh}
 use Rattle.proto_names.specs.declared.signature.Signature.{Signature}
 use Rattle.proto_names.specs.declared.instance.Instance.{Instance}
-use Rattle.instance_table.specs.Tables.{role, role_told, no_sums}
+use Rattle.proto_names.specs.Roles.{role_of, last_place}
+use Rattle.instance_table.specs.Tables.{role_told, no_sums}
 use Rattle.instance_table.specs.declared.brief.Brief.{Brief}
 
 pub length_push : {X : Type 0} (xs : List X) (x : X) → length (xs ++ x ∷ []) ≡ length xs + 1
@@ -34,7 +35,7 @@ ids_push is i at e =
     ∙ sym (range_push (length is) 1) ∙ ap (range_with_len 1) (sym (length_push is i))
 
 pub role_fresh : (is : List Instance) (σ : Signature) (b : Arc Brief Global) → b.value.id ≡ length is + 1 → b.value.signature ≡ σ →
-    role_told b ≡ role (fresh is σ b.value.set b.value.round1)
+    role_told b ≡ role_of (fresh is σ b.value.set b.value.round1 (last_place b.value.groups.value))
 unfolding fresh
 role_fresh is σ b at of = cc
 

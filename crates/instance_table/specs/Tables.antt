@@ -9,27 +9,23 @@ use Rattle.param_set.specs.declared.params.Params.{Params}
 use Rattle.param_set.specs.Moduli.{digit_rows}
 use Rattle.proto_names.specs.Names.{rows_of, is_void}
 use Rattle.proto_names.specs.Instances.{instance, lacks, missing}
+use Rattle.proto_names.specs.Roles.{Role, last_place}
 use Rattle.proto_names.specs.declared.signature.Signature.{Signature}
-use Rattle.proto_names.specs.declared.sets.PartySet.{PartySet}
 use Rattle.proto_names.specs.declared.instance.Instance.{Instance}
 use Rattle.instance_table.specs.declared.brief.Brief.{Brief}
 use Rattle.instance_table.specs.declared.share.Count.{Count}
 use Rattle.instance_table.specs.declared.share.Count.TheVariants.{Counted, Completed}
 
--- ---- what an instance keeps from the call that issues it on
+-- ---- an instance's role, as its brief tells it
 
-pub record Role : Type 0 where
-  pub id : ℕ
-  pub signature : Signature
-  pub set : PartySet
-  pub round1 : ℕ
-
-abbrev pub role : Instance → Role
-role i = record { id = i.id; signature = i.signature; set = i.set; round1 = i.round1 }
-
--- the same as its brief tells it
 abbrev pub role_told : Arc Brief Global → Role
-role_told brief = record { id = brief.value.id; signature = brief.value.signature; set = brief.value.set; round1 = brief.value.round1 }
+role_told brief = record {
+  signature = brief.value.signature;
+  id = brief.value.id;
+  set = brief.value.set;
+  round1 = brief.value.round1;
+  group = last_place brief.value.groups.value;
+}
 
 -- ---- sums, each a list of polynomials
 

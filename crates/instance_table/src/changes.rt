@@ -1,7 +1,8 @@
 ghost use Rattle.std.specs.Prelude.{◌≡◌, ◌≤◌, ◌<◌, ◌+◌, ◌-◌, ◌^◌, ℕ, [], ◌∷◌, ◌++◌, length, All, Some, IsTrue, OnOk, slice_index_or, slice_set};
 ghost use Rattle.mod_ring.specs.Fits.{Fits};
 ghost use Rattle.proto_names.specs.Instances.{with_fresh, after_share, after_void, after_lost};
-ghost use Rattle.instance_table.specs.Tables.{role, no_sums, rows_sum, after_rows, awaits, stands, count_of};
+ghost use Rattle.proto_names.specs.Roles.{role_of, last_place};
+ghost use Rattle.instance_table.specs.Tables.{no_sums, rows_sum, after_rows, awaits, stands, count_of};
 ghost use Rattle.instance_table.specs.Spare.{spare};
 
 use crate::readers::place_of;
@@ -34,7 +35,8 @@ impl Table {
     #[tactic(auto, unfolding(crate::specs::Spare::spare))]
     fn replace(&mut self, place: usize, instance: Instance)
         requires place { place < length self.old.instances.items }
-        requires role { role instance ≡ role (slice_index_or self.old.instances.items place instance) }
+        requires role { role_of instance
+            ≡ role_of (slice_index_or self.old.instances.items place instance) }
         ensures instances { self.new.instances.items ≡ slice_set self.old.instances.items place instance }
         ensures briefs { self.new.briefs.items ≡ self.old.briefs.items }
         ensures sums { self.new.sums.items ≡ self.old.sums.items }
@@ -127,17 +129,21 @@ impl Table {
         self.mark(share.id, share.party)
     }
 
-    /// Puts an instance behind the others, with its brief and with sums to which no share is added, and
-    /// gives its number.
+    /// Puts an instance behind the others, for the last group of its brief, with the brief and with sums to
+    /// which no share is added, and gives its number.
     #[tactic(auto, unfolding(crate::specs::Spare::spare))]
     pub fn issue(&mut self, signature: Signature, brief: Arc<Brief>, sums: Polys) -> u32
         requires room { 1 ≤ spare self.old }
         requires few { length self.old.instances.items < 2 ^ 30 }
         requires id { brief.value.id ≡ length self.old.instances.items + 1 }
         requires signature { brief.value.signature ≡ signature }
+        requires some_group { 1 ≤ length brief.value.groups.value }
+        requires few_groups { length brief.value.groups.value ≤ 2 ^ 30 }
         requires zeros { sums ≡ no_sums self.old.params signature }
         ensures id { result ≡ length self.old.instances.items + 1 }
-        ensures instances { self.new.instances.items ≡ with_fresh self.old.instances.items signature brief.value.set brief.value.round1 }
+        ensures instances { self.new.instances.items
+            ≡ with_fresh self.old.instances.items signature brief.value.set brief.value.round1
+            (last_place brief.value.groups.value) }
         ensures briefs { self.new.briefs.items ≡ self.old.briefs.items ++ brief ∷ [] }
         ensures sums { self.new.sums.items ≡ self.old.sums.items ++ sums ∷ [] }
         ensures ring { self.new.params ≡ self.old.params }
@@ -148,6 +154,7 @@ impl Table {
             signature,
             brief.set,
             brief.round1,
+            brief.groups.last_place(),
         );
         self.instances.push_reserved(instance);
         self.briefs.push_reserved(brief);

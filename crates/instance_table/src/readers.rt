@@ -2,7 +2,8 @@ ghost use Rattle.std.specs.Prelude.{◌≡◌, ◌≤◌, ◌-◌, ◌↔◌, �
 ghost use Rattle.ring_spec.specs.Ring.{IsPoly};
 ghost use Rattle.proto_names.specs.Names.{is_void};
 ghost use Rattle.proto_names.specs.Instances.{instance, owed_shares, after_share};
-ghost use Rattle.instance_table.specs.Tables.{role, role_told, row_count, row_counts, stands, told};
+ghost use Rattle.proto_names.specs.Roles.{role_of};
+ghost use Rattle.instance_table.specs.Tables.{role_told, row_count, row_counts, stands, told};
 
 use crate::{Brief, Table};
 use mod_ring::Polys;
@@ -118,7 +119,8 @@ impl Table {
     pub fn brief(&self, id: u32) -> Option<&Arc<Brief>>
         ensures value { option_copied result ≡ told self.now.instances.items self.now.briefs.items id }
         ensures while_it_stands { IsSome result ↔ IsTrue (stands self.now.instances.items id) }
-        ensures role { IfSome result (λ brief. Some (role_told brief.now) ≡ option_map role (instance self.now.instances.items id)) }
+        ensures role { IfSome result (λ brief. Some (role_told brief.now)
+            ≡ option_map role_of (instance self.now.instances.items id)) }
     {
         self.entry_of(id, self.briefs.as_slice())
     }

@@ -2,7 +2,8 @@ ghost use Rattle.std.specs.Prelude.{◌≡◌, ◌≤◌, ◌^◌, [], map, leng
 ghost use Rattle.std.specs.List.{range_with_len};
 ghost use Rattle.ring_spec.specs.Ring.{IsPoly};
 ghost use Rattle.proto_names.specs.Instances.{id_of};
-ghost use Rattle.instance_table.specs.Tables.{role, role_told, row_count, row_counts};
+ghost use Rattle.proto_names.specs.Roles.{role_of};
+ghost use Rattle.instance_table.specs.Tables.{role_told, row_count, row_counts};
 
 use crate::Brief;
 use mod_ring::{Polys, Ring};
@@ -23,7 +24,7 @@ pub struct Table {
     pub(crate) sums: Vec<Polys>,
     pub ghost few: { length instances.items ≤ 2 ^ 30 },
     pub ghost numbered: { map id_of instances.items ≡ range_with_len 1 (length instances.items) },
-    pub ghost briefed: { map role_told briefs.items ≡ map role instances.items },
+    pub ghost briefed: { map role_told briefs.items ≡ map role_of instances.items },
     pub ghost rows: { map row_count sums.items ≡ map (row_counts params) instances.items },
     pub ghost fits: { All (All (IsPoly params.q params.n)) sums.items },
 }

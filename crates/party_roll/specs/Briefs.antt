@@ -1,7 +1,9 @@
 -- The briefs from which parties make shares.
-use Rattle.std.specs.Prelude.{◌≡◌, ℕ, Bool, true, false, length, All, IsTrue}
+use Rattle.std.specs.Prelude.{◌≡◌, Bool, true, false, length, All, IsTrue}
 use Rattle.ring_spec.specs.Ring.{IsPoly}
+use Rattle.param_set.specs.Numbers.{digit_rows}
 use Rattle.param_set.specs.declared.params.Params.{Params}
+use Rattle.proto_names.specs.Names.{polys_of_brief}
 use Rattle.proto_names.specs.declared.signature.Signature.{Signature}
 use Rattle.proto_names.specs.declared.signature.Signature.TheVariants.{Pk, Rlk1, Rlk2, Rot, Dec}
 use Rattle.instance_table.specs.declared.brief.Brief.{Brief}
@@ -14,16 +16,8 @@ is_made Rlk2 = false
 is_made (Rot g) = false
 is_made (Dec circuit) = true
 
--- the number of polynomials that their shares are made from
-abbrev pub polys_wanted : Signature → ℕ
-polys_wanted Pk = 0
-polys_wanted Rlk1 = 0
-polys_wanted Rlk2 = 0
-polys_wanted (Rot g) = 0
-polys_wanted (Dec circuit) = 1
-
--- a brief of such a signature, with its polynomials
+-- a brief of such a signature, with the polynomials that its shares are made from
 pub record IsBrief (p : Params) (brief : Brief) : Type 0 where
   pub made : IsTrue (is_made brief.signature)
-  pub number : length brief.polys ≡ polys_wanted brief.signature
+  pub number : length brief.polys ≡ polys_of_brief brief.signature (digit_rows p.q p.digit_bits)
   pub fit : All (IsPoly p.q p.n) brief.polys

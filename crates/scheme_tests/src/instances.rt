@@ -6,7 +6,7 @@ ghost use Rattle.instance_table.specs.Tables.{awaits};
 use instance_table::{Brief, Count, Share, Stage, Table};
 use mod_ring::{Polys, Ring, of_signed, zero};
 use param_set::Params;
-use proto_names::{PartySet, Signature};
+use proto_names::{Groups, PartySet, Signature};
 use std::alloc::{AllocError, Global};
 use std::process::Abort;
 use std::sync::Arc;
@@ -39,11 +39,13 @@ fn issue(
     table.room(1)?;
     let sums = zeros(alloc, ring)?;
     let signature = Signature::Dec(circuit);
+    let groups = Groups::first(alloc, 2, 3)?;
     let brief = Brief {
         id: table.issued() + 1,
         signature,
         set: PartySet { bits },
         round1: 0,
+        groups: Arc::new(alloc, groups)?,
         polys: Polys::new(alloc),
     };
     Ok(table.issue(signature, Arc::new(alloc, brief)?, sums))

@@ -15,9 +15,10 @@ use instance_table::{Brief, Share};
 use mod_ring::{Ciphertext, Poly, Polys, PublicKey, Ring, of_signed};
 use param_set::{Params, Plain};
 use party_roll::*;
-use proto_names::{PartySet, Signature};
+use proto_names::{Groups, PartySet, Signature};
 use std::alloc::{AllocError, Global};
 use std::process::Abort;
+use std::sync::Arc;
 use std::test::Fail;
 
 fn public_of<R: Roll>(roll: &R) -> [u8; 32]
@@ -192,23 +193,26 @@ fn is_made(
 
 /// The brief of the public key of the first two parties.
 #[tactic(auto, unfolding(proto_names::specs::Names::rows_of))]
-fn key_brief(alloc: Global, ring: &Ring) -> Brief
-    ensures polys { IsBrief ring.now.params result }
-    ensures one_row { rows_of result.signature (digit_rows ring.now.params.q ring.now.params.digit_bits) ≡ 1 }
+fn key_brief(alloc: Global, ring: &Ring) -> Result<Brief, AllocError>
+    ensures polys { IfOk result (λ brief. IsBrief ring.now.params brief) }
+    ensures one_row { IfOk result (λ brief. rows_of brief.signature
+        (digit_rows ring.now.params.q ring.now.params.digit_bits) ≡ 1) }
 {
-    Brief {
+    let groups = Groups::first(alloc, 2, 3)?;
+    Ok(Brief {
         id: 1,
         signature: Signature::Pk,
         set: PartySet { bits: 3 },
         round1: 0,
+        groups: Arc::new(alloc, groups)?,
         polys: Polys::new(alloc),
-    }
+    })
 }
 
 #[test]
 fn shares_of_a_key(rt: HostRuntime) -> Result<(), Fail> {
     let ring = Ring::new(rt.alloc(), &Params::frame(3, 2))?;
-    let brief = key_brief(rt.alloc(), &ring);
+    let brief = key_brief(rt.alloc(), &ring)?;
     for (p, start, _) in SHARES {
         let made = is_made(rt.alloc(), &ring, p, &brief, 1, start)?;
         assert!(rt; made, "the key of party {p}");
@@ -225,11 +229,13 @@ fn decryption_brief(alloc: Global, ring: &Ring) -> Result<Brief, AllocError>
 {
     let mut polys = Polys::new(alloc);
     polys.push(of_signed(alloc, ring, &C1)?)?;
+    let groups = Groups::first(alloc, 2, 3)?;
     Ok(Brief {
         id: 2,
         signature: Signature::Dec(0),
         set: PartySet { bits: 3 },
         round1: 0,
+        groups: Arc::new(alloc, groups)?,
         polys,
     })
 }

@@ -8,7 +8,7 @@ use Rattle.std.proofs.lemmas.Bool.{not-true}
 use Rattle.std.proofs.lemmas.List.Elements.{All-contains}
 use Rattle.ring_spec.specs.Pairs.{Key, KeyFits}
 use Rattle.param_set.specs.declared.params.Params.{Params}
-use Rattle.proto_names.specs.Names.{is_void, rows_of}
+use Rattle.proto_names.specs.Names.{is_void, rows_of, polys_of_brief}
 use Rattle.proto_names.specs.Instances.{instance}
 use Rattle.proto_names.specs.declared.signature.Signature.{Signature}
 use Rattle.proto_names.specs.declared.signature.Signature.TheVariants.{Pk, Dec}
@@ -18,7 +18,7 @@ use Rattle.proto_names.specs.declared.instance.Stage.TheVariants.{Opened, Comple
 use Rattle.circuit_runner.specs.declared.job.Job.{Job}
 use Rattle.instance_table.specs.Tables.{stands as is_standing, row_count, row_counts}
 use Rattle.instance_table.specs.declared.brief.Brief.{Brief}
-use Rattle.party_roll.specs.Briefs.{is_made, polys_wanted, IsBrief}
+use Rattle.party_roll.specs.Briefs.{is_made, IsBrief}
 use Rattle.session_rules.specs.declared.call.Entry.{Entry}
 use Rattle.session_rules.specs.declared.reply.Reply.{Reply}
 use Rattle.session_rules.specs.declared.reply.Reply.TheVariants as reply
@@ -96,10 +96,12 @@ pub has_brief : (s : State) (id : ℕ) (b : Brief) → steps.brief s id ≡ brie
 unfolding steps.brief
 has_brief s id b told = brief_if s id b (instance s.instances id) refl told
 
-brief_made : (p : Params) (h : Store) (i : Instance) (b : Brief) (σ : Signature) → IsBriefOf p h i b → i.signature ≡ σ → is_made σ ≡ true → polys_told σ ≡ polys_wanted σ → IsBrief p b
+brief_made : (p : Params) (h : Store) (i : Instance) (b : Brief) (σ : Signature) → IsBriefOf p h i b → i.signature ≡ σ → is_made σ ≡ true
+    → polys_told σ ≡ polys_of_brief σ (digit_rows p.q p.digit_bits) → IsBrief p b
 brief_made p h i b σ x e made number = record {
   made = rw (x.signature, e) made;
-  number = x.told.number ∙ ap polys_told e ∙ number ∙ ap polys_wanted (sym (x.signature ∙ e));
+  number = x.told.number ∙ ap polys_told e ∙ number
+      ∙ ap (λ (z : Signature). polys_of_brief z (digit_rows p.q p.digit_bits)) (sym (x.signature ∙ e));
   fit = x.told.fit;
 }
 

@@ -44,7 +44,7 @@ pub behind : (is : List Instance) (xs : List Step) → Behind is xs
 unfolding instances_after fresh
 behind is [] = record { more = []; all = sym (append-nil is); signatures = refl; opened = All-nil IsOpened }
 behind is (x ∷ xs) =
-    let i = fresh is x.signature x.brief.value.set x.brief.value.round1 in
+    let i = fresh is x.signature x.brief.value.set x.brief.value.round1 0 in
     let rest = behind (is ++ i ∷ []) xs in
     record {
       more = i ∷ rest.more;

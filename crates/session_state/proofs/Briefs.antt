@@ -1,11 +1,13 @@
 -- The brief of an instance that stands is what its table tells of it.
 use Rattle.std.proofs.Common.{◌≡◌, ◌∙◌, sym, ap, subst, refl, ℕ, ◌+◌, ◌-◌, ◌<◌, Bool, true, false, not, cond, inl, inr, nat_eq, List, [], length, map, get_or, Some, None, Option, arith}
+use Rattle.std.specs.Prelude.{All}
 use Rattle.std.specs.List.{range_with_len, slice_get}
 use Rattle.std.specs.Option.{option_map}
 use Rattle.std.specs.declared.alloc.Global.{Global}
 use Rattle.std.specs.declared.sync.Arc.{Arc}
 use Rattle.std.proofs.lemmas.Bool.{eqb-false, cases_eq}
 use Rattle.std.proofs.lemmas.List.{get_or-map}
+use Rattle.std.proofs.lemmas.List.Elements.{All-get_or}
 use Rattle.std.proofs.lemmas.Option.{slice_get_within, get_or_from_slice_get}
 use Rattle.param_set.specs.declared.params.Params.{Params}
 use Rattle.proto_names.specs.Names.{is_void}
@@ -14,7 +16,8 @@ use Rattle.proto_names.specs.declared.instance.Instance.{Instance}
 use Rattle.proto_names.specs.declared.instance.Stage.{Stage}
 use Rattle.proto_names.specs.declared.instance.Stage.TheVariants.{Opened, Complete, Void}
 use Rattle.instance_table.specs.declared.brief.Brief.{Brief}
-use Rattle.instance_table.specs.Tables.{Role, role, role_told, stands, told}
+use Rattle.proto_names.specs.Roles.{Role, role_of}
+use Rattle.instance_table.specs.Tables.{role_told, stands, told}
 use Rattle.instance_table.proofs.Places.{id_at, told_entry}
 use Rattle.session_rules.specs.declared.reply.Reply.{Reply}
 use Rattle.session_rules.specs.declared.reply.Reply.TheVariants as reply
@@ -22,7 +25,7 @@ use Rattle.session_rules.specs.States.{State}
 use Rattle.session_rules.specs.Steps.{brief, told as told_by}
 use Rattle.session_rules.specs.Facts.{IsLive}
 use Rattle.session_spec.specs.Stores.{Store, held_polys}
-use Rattle.session_state.specs.Parts.{polys_in, AreTold}
+use Rattle.session_state.specs.Parts.{polys_in, AreTold, IsOfFirst}
 use Rattle.session_state.specs.Handed.{IsBriefOf}
 
 pub some_parts : {X : Type 0} (x y : X) → Some x ≡ Some y → x ≡ y
@@ -95,9 +98,10 @@ within_told is briefs id pointer e = at (stands is id) e
 
 pub brief_of : (p : Params) (h : Store) (is : List Instance) (briefs : List (Arc Brief Global)) (id : ℕ) (i : Instance) (pointer : Arc Brief Global)
     → map id_of is ≡ range_with_len 1 (length is) → h.told ≡ map polys_in briefs → instance is id ≡ Some i → Some pointer ≡ told is briefs id
-    → Some (role_told pointer) ≡ option_map role (instance is id) → AreTold p i.signature (held_polys h id) → IsBriefOf p h i pointer.value
-brief_of p h is briefs id i pointer numbered same e at roles are =
-    let one : role_told pointer ≡ role i = some_parts (role_told pointer) (role i) (roles ∙ ap (option_map role) e) in
+    → Some (role_told pointer) ≡ option_map role_of (instance is id) → All (IsOfFirst p) briefs → AreTold p i.signature (held_polys h id)
+    → IsBriefOf p h i pointer.value
+brief_of p h is briefs id i pointer numbered same e at roles grouped are =
+    let one : role_told pointer ≡ role_of i = some_parts (role_told pointer) (role_of i) (roles ∙ ap (option_map role_of) e) in
     let number : i.id ≡ id = number_is is id i numbered e in
     let within : id - 1 < length briefs = within_told is briefs id pointer (sym at) in
     let here : get_or briefs (id - 1) pointer ≡ pointer = told_entry is briefs id pointer pointer (sym at) in
@@ -107,6 +111,8 @@ brief_of p h is briefs id i pointer numbered same e at roles are =
       signature = ap (λ (z : Role). z.signature) one;
       set = ap (λ (z : Role). z.set) one;
       round1 = ap (λ (z : Role). z.round1) one;
+      group = ap (λ (z : Role). z.group) one;
+      groups = subst (IsOfFirst p) here (All-get_or (IsOfFirst p) briefs (id - 1) pointer within grouped);
       polys = sym polys ∙ ap (held_polys h) (sym number);
       told = subst (λ (z : List (List ℕ)). AreTold p i.signature z) polys are;
     }

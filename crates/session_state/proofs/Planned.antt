@@ -46,9 +46,9 @@ move_due f s m only none (other σ first unused many needed e) =
     subst (λ (x : Move). IsDue s.circuits x) (sym e) (due_issue s.circuits σ (least_present f s) f only needed)
 
 -- a new instance is not complete
-none_fresh : (is : List Instance) (σ : Signature) (set : PartySet) (round1 : ℕ) → is_done Rlk1 (fresh is σ set round1) ≡ false
+none_fresh : (is : List Instance) (σ : Signature) (set : PartySet) (round1 group : ℕ) → is_done Rlk1 (fresh is σ set round1 group) ≡ false
 unfolding is_done fresh
-none_fresh is σ set round1 = at (same σ Rlk1)
+none_fresh is σ set round1 group = at (same σ Rlk1)
   where
     at : (b : Bool) → (b && false) ≡ false
     at true = refl
@@ -59,7 +59,7 @@ none_then : (is : List Instance) (m : Move) → IsIssue m → has_done Rlk1 is �
 unfolding has_done instances_after
 none_then is (GiveUp id by) issues none = absurd issues
 none_then is (Issue σ set round1) issues none =
-    rw (list_any-append (is_done Rlk1) is (fresh is σ set round1 ∷ []), none, none_fresh is σ set round1) refl
+    rw (list_any-append (is_done Rlk1) is (fresh is σ set round1 0 ∷ []), none, none_fresh is σ set round1 0) refl
 
 due_then : (n : ℕ) (f : Fixed) (s : State) → All IsPk (keys f) → has_done Rlk1 s.instances ≡ false → ((t : State) → has_done Rlk1 t.instances ≡ false → All (IsDue t.circuits) (moves_in n f t))
     → (o : Option Move) → next_move f s ≡ o → All (IsDue s.circuits) (elim o as (λ x. List Move) [

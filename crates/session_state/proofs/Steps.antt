@@ -1,9 +1,11 @@
 -- The steps of a plan, one after the other.
-use Rattle.std.proofs.Common.{◌≡◌, ◌∙◌, sym, ap, ℕ, zero, suc, ◌+◌, ◌<◌, List, [], ◌∷◌, ◌++◌, length, map, take, get_or, fold, Option, arith}
+use Rattle.std.proofs.Common.{◌≡◌, ◌∙◌, sym, ap, subst, ℕ, zero, suc, ◌+◌, ◌<◌, List, [], ◌∷◌, ◌++◌, length, map, take, get_or, fold, Option, arith}
 use Rattle.std.specs.Prelude.{All}
 use Rattle.std.specs.List.{range_with_len}
+use Rattle.std.specs.declared.alloc.Global.{Global}
+use Rattle.std.specs.declared.sync.Arc.{Arc}
 use Rattle.std.proofs.lemmas.List.{get_or-map, map_push, append_assoc, length_push, take_more}
-use Rattle.std.proofs.lemmas.List.Elements.{All-push}
+use Rattle.std.proofs.lemmas.List.Elements.{All-push, All-get_or, All-map, All-append}
 use Rattle.std.proofs.lemmas.List.FromFn.{get_or-range_with_len}
 use Rattle.std.proofs.lemmas.List.Sums.{fold_push}
 use Rattle.proto_names.specs.Instances.{with_fresh}
@@ -11,9 +13,11 @@ use Rattle.proto_names.specs.declared.instance.Instance.{Instance}
 use Rattle.ring_spec.specs.Pairs.{Cipher}
 use Rattle.param_set.specs.declared.params.Params.{Params}
 use Rattle.instance_table.proofs.Issued.{maps_push}
+use Rattle.instance_table.specs.declared.brief.Brief.{Brief}
 use Rattle.session_rules.specs.Issues.{instances_after}
 use Rattle.session_rules.specs.declared.moves.Move.{Move}
-use Rattle.session_state.specs.Issuings.{move_of, id_told, polys_told, polys_due, IsFresh}
+use Rattle.session_state.specs.Issuings.{move_of, id_told, polys_told, brief_of, polys_due, IsFresh}
+use Rattle.session_state.specs.Parts.{IsOfFirst}
 use Rattle.session_state.specs.declared.issuing.Step.{Step}
 
 -- the number that a step tells
@@ -21,9 +25,22 @@ pub id_at : (xs : List Step) (a k : ℕ) (x : Step) → map id_told xs ≡ range
 id_at xs a k x e l at =
     ap id_told at ∙ sym (get_or-map id_told xs k x (id_told x) l) ∙ ap (λ (zs : List ℕ). get_or zs k (id_told x)) e ∙ get_or-range_with_len a (length xs) k (id_told x) l
 
+-- each step is for the one group
+pub one_group_at : (p : Params) (xs : List Step) (k : ℕ) (x : Step) → All (IsFresh p) xs → k < length xs → x ≡ get_or xs k x → length x.brief.value.groups.value ≡ 1
+one_group_at p xs k x fresh l at =
+    let its : IsFresh p x = subst (IsFresh p) (sym at) (All-get_or (IsFresh p) xs k x l fresh) in
+    ap length its.groups
+
+-- and all briefs with it
+pub all_of_first : (p : Params) (old : List (Arc Brief Global)) (xs : List Step) → All (IsOfFirst p) old → All (IsFresh p) xs
+    → All (IsOfFirst p) (old ++ map brief_of xs)
+all_of_first p old xs before fresh =
+    All-append (IsOfFirst p) old (map brief_of xs) before
+    (All-map (IsOfFirst p) brief_of xs (λ k d l. (All-get_or (IsFresh p) xs k d l fresh).groups))
+
 -- the instances after one more step
 pub fold_step : (is : List Instance) (xs : List Step) (x : Step)
-    → fold instances_after is (map move_of (xs ++ x ∷ [])) ≡ with_fresh (fold instances_after is (map move_of xs)) x.signature x.brief.value.set x.brief.value.round1
+    → fold instances_after is (map move_of (xs ++ x ∷ [])) ≡ with_fresh (fold instances_after is (map move_of xs)) x.signature x.brief.value.set x.brief.value.round1 0
 unfolding instances_after
 fold_step is xs x = ap (fold instances_after is) (map_push move_of xs x) ∙ fold_push instances_after is (map move_of xs) (move_of x)
 

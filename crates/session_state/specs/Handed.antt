@@ -5,6 +5,7 @@ use Rattle.param_set.specs.declared.params.Params.{Params}
 use Rattle.circuit_form.specs.Circuits.{first_fault, owners}
 use Rattle.cipher_spec.specs.Ciphers.{is_switch_free}
 use Rattle.circuit_runner.specs.declared.job.Job.{Job}
+use Rattle.proto_names.specs.Roles.{first_groups, last_place}
 use Rattle.proto_names.specs.declared.instance.Instance.{Instance}
 use Rattle.instance_table.specs.declared.brief.Brief.{Brief}
 use Rattle.session_rules.specs.declared.reply.Reply.{Reply}
@@ -14,12 +15,14 @@ use Rattle.session_spec.specs.Settings.{Setting, nodes_at}
 use Rattle.session_spec.specs.Stores.{Store, held_polys, held_key, cipher_or}
 use Rattle.session_state.specs.Parts.{AreTold}
 
--- the brief of an instance: what it is, and the polynomials that its parties are told
+-- the brief of an instance: what it is, the one group, and the polynomials that its parties are told
 pub record IsBriefOf (p : Params) (h : Store) (i : Instance) (brief : Brief) : Type 0 where
   pub id : brief.id ≡ i.id
   pub signature : brief.signature ≡ i.signature
   pub set : brief.set ≡ i.set
   pub round1 : brief.round1 ≡ i.round1
+  pub group : last_place brief.groups.value ≡ i.group
+  pub groups : brief.groups.value ≡ first_groups p.threshold p.parties
   pub polys : brief.polys ≡ held_polys h i.id
   pub told : AreTold p i.signature brief.polys
 

@@ -7,6 +7,7 @@ use Rattle.ring_spec.specs.Pairs.{Cipher}
 use Rattle.param_set.specs.declared.params.Params.{Params}
 use Rattle.proto_names.specs.declared.signature.Signature.{Signature}
 use Rattle.proto_names.specs.declared.signature.Signature.TheVariants.{Dec}
+use Rattle.proto_names.specs.Roles.{first_groups}
 use Rattle.instance_table.specs.Tables.{no_sums}
 use Rattle.instance_table.specs.declared.brief.Brief.{Brief}
 use Rattle.session_rules.specs.declared.moves.Move.{Move}
@@ -52,9 +53,10 @@ abbrev pub with_made : List (Option Cipher) → ℕ → Option Cipher → List (
 with_made outputs c None = outputs
 with_made outputs c (Some ct) = slice_set outputs c (Some ct)
 
--- its brief has its signature, and no share is added to its sums
+-- its brief has its signature and the one group, and no share is added to its sums
 pub record IsFresh (p : Params) (step : Step) : Type 0 where
   pub signature : step.brief.value.signature ≡ step.signature
+  pub groups : step.brief.value.groups.value ≡ first_groups p.threshold p.parties
   pub sums : step.sums ≡ no_sums p step.signature
 
 -- ---- moves

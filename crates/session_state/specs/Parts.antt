@@ -8,6 +8,7 @@ use Rattle.ring_spec.specs.Pairs.{Cipher, CipherFits}
 use Rattle.param_set.specs.declared.params.Params.{Params}
 use Rattle.param_set.specs.Numbers.{numbers_of}
 use Rattle.proto_names.specs.Instances.{instance}
+use Rattle.proto_names.specs.Roles.{first_groups}
 use Rattle.proto_names.specs.declared.signature.Signature.{Signature}
 use Rattle.proto_names.specs.declared.signature.Signature.TheVariants.{Pk, Rlk1, Rlk2, Rot, Dec}
 use Rattle.proto_names.specs.declared.instance.Instance.{Instance}
@@ -38,6 +39,10 @@ store_by briefs sums inputs outputs answers = record {
   outputs = outputs;
   answers = answers;
 }
+
+-- a brief whose instance is for the one group
+abbrev pub IsOfFirst : Params → Arc Brief Global → Type 0
+IsOfFirst p brief = brief.value.groups.value ≡ first_groups p.threshold p.parties
 
 -- an input that is there
 abbrev pub IsThere : Option (Arc Cipher Global) → Type 0

@@ -283,6 +283,7 @@ impl Standing {
         plan(
             alloc,
             &self.ring,
+            &self.groups,
             &self.rules,
             self.needed.as_slice(),
             &self.present,

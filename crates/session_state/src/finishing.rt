@@ -66,6 +66,7 @@ impl Standing {
         plan(
             alloc,
             &self.ring,
+            &self.groups,
             &self.rules,
             self.needed.as_slice(),
             &self.present,

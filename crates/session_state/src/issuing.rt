@@ -4,6 +4,7 @@ ghost use Rattle.std.specs.Prelude.{◌≡◌, ◌≤◌, ℕ, ◌+◌, ◌^◌,
 ghost use Rattle.std.specs.List.{range_with_len, fold};
 ghost use Rattle.mod_ring.specs.Fits.{Fits};
 ghost use Rattle.proto_names.specs.declared.signature.Signature.TheVariants.{Rlk1, Dec};
+ghost use Rattle.proto_names.specs.Roles.{first_groups};
 ghost use Rattle.instance_table.specs.Tables.{no_sums};
 ghost use Rattle.instance_table.specs.Spare.{spare};
 ghost use Rattle.session_rules.specs.declared.state.CircuitState.TheVariants.{Evaluated};
@@ -15,7 +16,7 @@ ghost use Rattle.session_state.specs.Issuings.{move_of, id_told, polys_told, bri
 use crate::Places;
 use instance_table::{Brief, Instance, Table};
 use mod_ring::{Ciphertext, Poly, Polys, Ring, of_residues, zero};
-use proto_names::{PartySet, Signature, rows_of};
+use proto_names::{Groups, PartySet, Signature, rows_of};
 use session_rules::{CircuitState, Fixed, Move, planned_moves};
 use std::alloc::{AllocError, Global};
 use std::sync::Arc;
@@ -101,17 +102,20 @@ fn told(
     Ok(polys)
 }
 
-/// The instance that a move issues. No move gives one up: only a complete first round can be, and of
-/// circuits without key switches there is none.
+/// The instance that a move issues, for the one group. No move gives one up: only a complete first round can
+/// be, and of circuits without key switches there is none.
 fn planned(
     alloc: Global,
     ring: &Ring,
+    groups: &Arc<Groups>,
     outputs: &Places<Ciphertext>,
     at: u32,
     made: Option<&Ciphertext>,
     id: u32,
     next: Move,
 ) -> Result<Step, AllocError>
+    requires groups { groups.now.value
+        ≡ first_groups ring.now.params.threshold ring.now.params.parties }
     requires issues { IsIssue next }
     requires output { (c : ℕ) → Decrypts next c
         → HasCipher ring.now.params (slice_index_or (with_made outputs.now at (option_copied made))
@@ -135,6 +139,7 @@ fn planned(
                 signature,
                 set,
                 round1,
+                groups: Arc::try_clone(groups)?,
                 polys,
             };
             Ok(Step {
@@ -152,6 +157,7 @@ fn planned(
 pub(crate) fn plan(
     alloc: Global,
     ring: &Ring,
+    groups: &Arc<Groups>,
     rules: &Fixed,
     needed: &[Signature],
     present: &PartySet,
@@ -161,6 +167,8 @@ pub(crate) fn plan(
     at: u32,
     made: Option<&Ciphertext>,
 ) -> Result<Issuing, AllocError>
+    requires groups { groups.now.value
+        ≡ first_groups ring.now.params.threshold ring.now.params.parties }
     requires keys { needed.now ≡ keys rules.now }
     requires only_keys { All IsPk needed.now }
     requires few_keys { length needed.now ≤ 1 }
@@ -181,7 +189,7 @@ pub(crate) fn plan(
     let mut steps = Vec::with_capacity(alloc, moves.len())?;
     'moves: for place in 0..moves.len() {
         let id = first + place as u32;
-        steps.push(planned(alloc, ring, outputs, at, made, id, moves[place])?)?;
+        steps.push(planned(alloc, ring, groups, outputs, at, made, id, moves[place])?)?;
     }
     Ok(Issuing { steps })
 }

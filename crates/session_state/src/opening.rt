@@ -1,5 +1,6 @@
 ghost use Rattle.std.specs.Prelude.{◌≡◌, ℕ, ◌≤◌, List, [], length, map, replicate, false, All, IfOk, None};
 ghost use Rattle.param_set.specs.Numbers.{numbers_of};
+ghost use Rattle.proto_names.specs.Roles.{first_groups};
 ghost use Rattle.session_rules.specs.Fixing.{plan_of as plan_by};
 ghost use Rattle.session_rules.specs.States.{opening, opening_of, none_given};
 ghost use Rattle.session_spec.specs.Settings.{rules as rules_for, nodes_of, Keeps};
@@ -11,7 +12,7 @@ use crate::{Circuits, Places, Standing};
 use instance_table::Table;
 use mod_ring::{Ciphertext, Ring};
 use param_set::Params;
-use proto_names::PartySet;
+use proto_names::{Groups, PartySet};
 use session_rules::{CircuitState, Fixed, Given, PlanList, plan_of};
 use std::alloc::{AllocError, Global};
 use std::sync::Arc;
@@ -27,6 +28,15 @@ fn plans_of(alloc: Global, params: &Params, circuits: &Circuits) -> Result<PlanL
         plans.push(plan_of(alloc, params, &circuits.at(place).circuit)?)?;
     }
     Ok(plans)
+}
+
+/// The list of the one group, to which the parties deal at first.
+fn first_group(alloc: Global, params: &Params) -> Result<Arc<Groups>, AllocError>
+    ensures { IfOk result (λ groups. groups.value
+        ≡ first_groups params.now.threshold params.now.parties) }
+{
+    let groups = Groups::first(alloc, params.threshold() as u32, params.parties() as u32)?;
+    Ok(Arc::new(alloc, groups)?)
 }
 
 /// Of each circuit that none of its inputs is given.
@@ -93,6 +103,7 @@ impl Standing {
             params,
             public,
             needed: rules.keys(alloc)?,
+            groups: first_group(alloc, &params)?,
             present: PartySet { bits: 0 },
             table: Table::new(alloc, &ring)?,
             given: given_none(alloc, &rules)?,

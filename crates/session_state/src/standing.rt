@@ -1,17 +1,18 @@
 ghost use Rattle.std.specs.Prelude.{◌≡◌, ℕ, ◌≤◌, length, All};
+ghost use Rattle.proto_names.specs.Roles.{first_groups};
 ghost use Rattle.session_rules.specs.States.{seen, plan};
 ghost use Rattle.session_rules.specs.Issues.{keys};
 ghost use Rattle.session_spec.specs.Settings.{rules as rules_for, IsSetting};
 ghost use Rattle.session_spec.specs.Stores.{held_key};
 ghost use Rattle.session_spec.specs.Laws.{Matches};
 ghost use Rattle.session_state.specs.Shared.{shared_if};
-ghost use Rattle.session_state.specs.Parts.{setting_by, store_by, Holds, IsPk};
+ghost use Rattle.session_state.specs.Parts.{setting_by, store_by, Holds, IsPk, IsOfFirst};
 
 use crate::{Circuits, Places};
 use instance_table::Table;
 use mod_ring::{Ciphertext, PublicKey, Ring};
 use param_set::{Params, Plain};
-use proto_names::{PartySet, Signature};
+use proto_names::{Groups, PartySet, Signature};
 use session_rules::{CircuitState, Fixed, Given};
 use std::sync::Arc;
 
@@ -26,6 +27,8 @@ pub struct Standing {
     pub(crate) rules: Fixed,
     /// The keys that admitted circuits need.
     pub(crate) needed: Vec<Signature>,
+    /// The groups that held the secret so far: the one to which the parties deal at first.
+    pub(crate) groups: Arc<Groups>,
     pub(crate) present: PartySet,
     pub(crate) table: Table,
     pub(crate) given: Vec<Given>,
@@ -37,6 +40,8 @@ pub struct Standing {
     pub(crate) key: Option<Arc<PublicKey>>,
     pub ghost ring_is: { ring.value.params ≡ params },
     pub ghost table_is: { table.params ≡ params },
+    pub ghost groups_are: { groups.value ≡ first_groups params.threshold params.parties },
+    pub ghost grouped: { All (IsOfFirst params) table.briefs.items },
     pub ghost rules_are: { rules ≡ rules_for (setting_by params public circuits) },
     pub ghost needed_are: { needed.items ≡ keys rules },
     pub ghost setting_is: { IsSetting params (setting_by params public circuits) },

@@ -2,8 +2,9 @@
 use Rattle.std.proofs.Common.{◌≡◌, ℕ, List, [], ◌∷◌, true, false, Some, None, refl}
 use Rattle.ring_spec.specs.Ring.{residue, residues, ring_sum}
 use Rattle.share_spec.specs.Sets.{has, members_to, members}
-use Rattle.proto_names.specs.Names.{same, rows_of}
+use Rattle.proto_names.specs.Names.{same, rows_of, polys_of_brief}
 use Rattle.proto_names.specs.Groups.{with_party, without_party, set_of, least_of, is_outside, first_outside, number_outside}
+use Rattle.proto_names.specs.Roles.{role_of}
 use Rattle.proto_names.specs.Instances.{instance, lives, is_done, fresh, lacks, missing, with_share, after_share, after_void, after_lost, owed_shares}
 use Rattle.proto_names.specs.declared.signature.Signature.{Signature}
 use Rattle.proto_names.specs.declared.signature.Signature.TheVariants.{Pk, Rlk1, Rlk2, Rot, Dec}
@@ -11,7 +12,7 @@ use Rattle.proto_names.specs.declared.instance.Instance.{Instance}
 use Rattle.proto_names.specs.declared.instance.Stage.{Stage}
 use Rattle.proto_names.specs.declared.instance.Stage.TheVariants.{Opened, Complete, Void}
 use Rattle.instance_table.specs.declared.share.Count.TheVariants.{Counted, Completed}
-use Rattle.instance_table.specs.Tables.{role, row_sum, rows_sum, after_rows, awaits, stands, told, outcome, count_of}
+use Rattle.instance_table.specs.Tables.{row_sum, rows_sum, after_rows, awaits, stands, told, outcome, count_of}
 use Rattle.instance_table.specs.Totals.{added, rows_of_all}
 
 -- ---- sets of parties: 5 is that of the parties 1 and 3
@@ -40,11 +41,15 @@ pub rows : (rows_of Pk 7 ≡ 1) × (rows_of Rlk1 7 ≡ 14) × (rows_of Rlk2 7 �
 unfolding rows_of
 rows = (refl, refl, refl, refl, refl)
 
+-- polynomials that its shares are made from
+pub polys : (polys_of_brief Pk 7 ≡ 0) × (polys_of_brief Rlk1 7 ≡ 0) × (polys_of_brief Rlk2 7 ≡ 14) × (polys_of_brief (Rot 3) 7 ≡ 0) × (polys_of_brief (Dec 0) 7 ≡ 1)
+polys = (refl, refl, refl, refl, refl)
+
 -- ---- instances
 
 abbrev pub issued : ℕ → Signature → ℕ → ℕ → ℕ → Stage → ℕ → Instance
 issued id σ set attempt sent stage round1 =
-    record { id = id; signature = σ; set = record { bits = set }; attempt = attempt; sent = record { bits = sent }; stage = stage; round1 = round1 }
+    record { id = id; signature = σ; set = record { bits = set }; attempt = attempt; sent = record { bits = sent }; stage = stage; round1 = round1; group = 0 }
 
 -- a key that was given up, and one that waits for party 3
 abbrev pub both : List Instance
@@ -54,8 +59,10 @@ pub by_number : (instance both 0 ≡ None) × (instance both 1 ≡ Some (issued 
 unfolding instance
 by_number = (refl, refl, refl, refl)
 
--- the third attempt is number 3, and that of another signature is its first
-pub next : (fresh both Pk (record { bits = 6 }) 0 ≡ issued 3 Pk 6 3 0 Opened 0) × (fresh both Rlk2 (record { bits = 6 }) 1 ≡ issued 3 Rlk2 6 1 0 Opened 1)
+-- the third attempt is number 3, and that of another signature is its first; one is for the first group, one for
+-- the third
+pub next : (fresh both Pk (record { bits = 6 }) 0 0 ≡ issued 3 Pk 6 3 0 Opened 0)
+    × (fresh both Rlk2 (record { bits = 6 }) 1 2 ≡ record (issued 3 Rlk2 6 1 0 Opened 1) { group = 2 })
 unfolding fresh same
 next = (refl, refl)
 
@@ -117,5 +124,6 @@ pub outcomes : (outcome 0 ≡ Completed) × (outcome 2 ≡ Counted 2) × (count_
 unfolding outcome count_of instance missing with_party number_outside is_outside has
 outcomes = (refl, refl, refl, refl)
 
-pub roles : role (issued 2 Rlk2 5 1 0 Opened 1) ≡ record { id = 2; signature = Rlk2; set = record { bits = 5 }; round1 = 1 }
+pub roles : role_of (issued 2 Rlk2 5 1 0 Opened 1)
+    ≡ record { signature = Rlk2; id = 2; set = record { bits = 5 }; round1 = 1; group = 0 }
 roles = refl

@@ -4,7 +4,8 @@ use Rattle.std.specs.Prelude.{All}
 use Rattle.std.proofs.lemmas.List.Elements.{All-push}
 use Rattle.ring_spec.specs.Ring.{IsPoly}
 use Rattle.proto_names.specs.Instances.{fresh}
-use Rattle.instance_table.specs.Tables.{Role, role, role_told, row_count, row_counts}
+use Rattle.proto_names.specs.Roles.{Role, role_of, last_place}
+use Rattle.instance_table.specs.Tables.{role_told, row_count, row_counts}
 use Rattle.instance_table.proofs.Issued.{length_push, ids_push, role_fresh, maps_push, no_sums-number, no_sums-fits}
 use Rattle.instance_table.proofs.table.Table.issue.Goals as goal
 
@@ -13,8 +14,8 @@ invariant_of-self c =
     let t = c.args.self.now in let p = t.params in let σ = c.args.signature in
     let is = t.instances.items in let bs = t.briefs.items in let ss = t.sums.items in
     let i = c.fresh-instance.result in let b = c.args.brief in let s = c.args.sums in
-    let new : i ≡ fresh is σ b.value.set b.value.round1 = cc in
-    let told : role_told b ≡ role i = role_fresh is σ b c.requires.id c.requires.signature ∙ ap role (sym new) in
+    let new : i ≡ fresh is σ b.value.set b.value.round1 (last_place b.value.groups.value) = cc in
+    let told : role_told b ≡ role_of i = role_fresh is σ b c.requires.id c.requires.signature ∙ ap role_of (sym new) in
     let at : i.id ≡ length is + 1 = ap (λ (r : Role). r.id) (sym told) ∙ c.requires.id in
     let of : i.signature ≡ σ = ap (λ (r : Role). r.signature) (sym told) ∙ c.requires.signature in
     let counts : row_count s ≡ row_counts p i = ap row_count c.requires.zeros ∙ rw of (no_sums-number p σ) in
@@ -22,7 +23,7 @@ invariant_of-self c =
     record {
       few = rw (c.push_reserved.ensures.items, length_push is i) (omega arith);
       numbered = rw c.push_reserved.ensures.items (ids_push is i at t.numbered);
-      briefed = rw (c.push_reserved.ensures.items, c.push_reserved-2.ensures.items) (maps_push role_told role bs is b i t.briefed told);
+      briefed = rw (c.push_reserved.ensures.items, c.push_reserved-2.ensures.items) (maps_push role_told role_of bs is b i t.briefed told);
       rows = rw (c.push_reserved.ensures.items, c.push_reserved-3.ensures.items) (maps_push row_count (row_counts p) ss is s i t.rows counts);
       fits = rw c.push_reserved-3.ensures.items (All-push (All (IsPoly p.q p.n)) ss s t.fits fit);
     }

@@ -2,7 +2,8 @@
 use Rattle.std.proofs.Common.{◌≡◌, ◌+◌, ◌∙◌, ap, set, arith}
 use Rattle.std.specs.Prelude.{Some}
 use Rattle.std.proofs.lemmas.List.{get_or_default}
-use Rattle.instance_table.specs.Tables.{role, outcome}
+use Rattle.proto_names.specs.Roles.{role_of}
+use Rattle.instance_table.specs.Tables.{outcome}
 use Rattle.instance_table.proofs.Places.{share_at, count_at, awaits_issued}
 use Rattle.instance_table.proofs.Roles.{share_role}
 use Rattle.instance_table.proofs.table.Table.mark.Goals as goal
@@ -19,8 +20,8 @@ pub replace-requires-clause-role : goal.replace-requires-clause-role
 replace-requires-clause-role c =
     let is = c.args.self.now.instances.items in let k = c.place_of-place.result in let x = c.index-2.result.now in
     let issued = awaits_issued is c.args.id c.args.p c.requires in
-    ap role c.with_share-instance.ensures ∙ share_role c.args.p x
-    ∙ ap role (c.index-2.ensures ∙ get_or_default is k x c.with_share-instance.result (omega arith))
+    ap role_of c.with_share-instance.ensures ∙ share_role c.args.p x
+    ∙ ap role_of (c.index-2.ensures ∙ get_or_default is k x c.with_share-instance.result (omega arith))
 
 pub returns-clause-count : goal.returns-clause-count
 returns-clause-count c =

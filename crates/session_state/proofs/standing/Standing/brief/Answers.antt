@@ -30,7 +30,7 @@ returns c =
     let brief = c.in-Some-brief.ensures in
     let same = c.in_ok-try_clone.ensures in
     let told : (i : Instance) → instance st.table.instances.items c.args.id ≡ Some i → IsBriefOf st.params (store st) i c.in-Some-brief.brief.now.value = λ i e.
-    brief_of st.params (store st) st.table.instances.items st.table.briefs.items c.args.id i c.in-Some-brief.brief.now st.table.numbered refl e brief.value brief.role
+    brief_of st.params (store st) st.table.instances.items st.table.briefs.items c.args.id i c.in-Some-brief.brief.now st.table.numbered refl e brief.value brief.role st.grouped
     (st.holds.told c.args.id i e (subst (λ (j : Instance). IsLive j) (some_parts it i (sym at ∙ e)) live)) in
     let it_is = told it at in
     let replies : reply.Brief it.signature it.set ≡ brief_at (state st) c.args.id = brief_live (state st) c.args.id it at live in

@@ -26,6 +26,8 @@ invariant_of-self c =
     let f = rules_of st in let s = state st in let h = store st in
     record {
       ring_is = st.ring_is;
+      groups_are = st.groups_are;
+      grouped = rw e.briefs st.grouped;
       table_is = e.ring ∙ st.table_is;
       rules_are = st.rules_are;
       needed_are = st.needed_are;

@@ -15,6 +15,8 @@ invariant_of-self c =
     let place : n < length h.outputs = omega (arith, c.requires.there) in
     record {
       ring_is = st.ring_is;
+      groups_are = st.groups_are;
+      grouped = st.grouped;
       table_is = st.table_is;
       rules_are = st.rules_are;
       needed_are = st.needed_are;

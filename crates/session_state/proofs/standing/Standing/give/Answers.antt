@@ -66,6 +66,8 @@ invariant_of-self c =
     let stands = given_stands st.params w (state st) (store st) n k c.args.ct.value _ _ (at st n k r.kept r.grounded r.wanted) r.fits st.matches st.holds (sym flags) (sym rows) in
     record {
       ring_is = st.ring_is;
+      groups_are = st.groups_are;
+      grouped = st.grouped;
       table_is = st.table_is;
       rules_are = st.rules_are;
       needed_are = st.needed_are;

@@ -11,6 +11,7 @@ use Rattle.session_state.specs.Standings.{setting, rules_of, state, store}
 use Rattle.session_state.specs.declared.issuing.Step.{Step}
 use Rattle.session_state.specs.declared.standing.Standing.{Standing}
 use Rattle.session_state.proofs.Growth.{IsIssued, Grows, issued_state, grows}
+use Rattle.session_state.proofs.Steps.{all_of_first}
 use Rattle.session_state.proofs.standing.Standing.issue_planned.Goals as goal
 
 record Issues (st : Standing) (t : Table) : Type 0 where
@@ -44,6 +45,8 @@ invariant_of-self c =
     let g = (issues st c.carry_out.new.table c.args.issuing.steps.items c.requires.kept c.requires.planned e.instances e.briefs e.sums).grows_so in
     record {
       ring_is = st.ring_is;
+      groups_are = st.groups_are;
+      grouped = rw e.briefs (all_of_first st.params st.table.briefs.items c.args.issuing.steps.items st.grouped c.requires.planned.fresh);
       table_is = e.ring ∙ st.table_is;
       rules_are = st.rules_are;
       needed_are = st.needed_are;

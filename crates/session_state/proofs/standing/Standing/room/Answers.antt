@@ -8,6 +8,8 @@ invariant_of-self c =
     let e = c.room.ensures in
     record {
       ring_is = st.ring_is;
+      groups_are = st.groups_are;
+      grouped = rw e.briefs st.grouped;
       table_is = e.ring ∙ st.table_is;
       rules_are = st.rules_are;
       needed_are = st.needed_are;

@@ -85,6 +85,8 @@ invariant_of-self c =
     let within : d.circuit < length st.states.items = omega (arith, one_within st c.args.caller d.circuit d.to v.result v.ensures.said d.is, st.lengths.2) in
     record {
       ring_is = st.ring_is;
+      groups_are = st.groups_are;
+      grouped = st.grouped;
       table_is = st.table_is;
       rules_are = st.rules_are;
       needed_are = st.needed_are;

@@ -33,6 +33,8 @@ invariant_of-self c =
     let same = key_circuits st.params f s id p (length rows) i k want last pk in
     record {
       ring_is = st.ring_is;
+      groups_are = st.groups_are;
+      grouped = rw e.briefs st.grouped;
       table_is = e.ring ∙ st.table_is;
       rules_are = st.rules_are;
       needed_are = st.needed_are;
