@@ -23,6 +23,8 @@ mod schoolbook;
 #[cfg(test)]
 mod tapes;
 #[cfg(test)]
+mod transformed;
+#[cfg(test)]
 mod transforms;
 #[cfg(test)]
 mod words;

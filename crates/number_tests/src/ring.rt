@@ -4,7 +4,7 @@ ghost use Rattle.mod_ring.specs.Fits.{Fits};
 
 use crate::schoolbook::schoolbook;
 use mod_ring::{
-    Poly, Polys, Ring, add_into, centre, mul, neg_into, of_residues, of_signed, residue_of,
+    Poly, Polys, Ring, add_into, centre, mul, neg_into, of_residues, of_signed, phi, residue_of,
     scale_into, sub_into, zero,
 };
 use param_set::{Params, RawParams};
@@ -85,6 +85,27 @@ fn wraps_around_with_the_sign_changed(rt: HostRuntime) -> Result<(), Fail> {
     Ok(())
 }
 
+/// 3 X^3 and X^5.
+fn two_powers(alloc: Global, ring: &Ring) -> Result<Poly, AllocError>
+    requires { ring.now.params.n ≡ 8 }
+    ensures { IfOk result (λ f. IsPoly ring.now.params.q ring.now.params.n f) }
+{
+    of_signed(alloc, ring, &[0, 0, 0, 3, 0, 1, 0, 0])
+}
+
+#[test]
+fn puts_a_power_for_x(rt: HostRuntime) -> Result<(), Fail> {
+    let ring = Ring::new(rt.alloc(), &Params::frame(1, 1))?;
+    let f = two_powers(rt.alloc(), &ring)?;
+    // X^9 is -X, and X^15 is -X^7
+    let image = phi(rt.alloc(), &ring, 3, &f)?;
+    assert_eq!(rt; image.coeffs(), [0, Q - 3, 0, 0, 0, 0, 0, Q - 1].as_slice());
+    // 3 * 11 is 1 modulo 16
+    let back = phi(rt.alloc(), &ring, 11, &image)?;
+    assert_eq!(rt; back.coeffs(), f.coeffs());
+    Ok(())
+}
+
 /// A length, a modulus, and a root of the parameters. The last two moduli are composite.
 const RINGS: [(u64, u64, u64); 5] = [
     (8, Q, 3),
@@ -141,6 +162,15 @@ fn keeps_lists_of_polynomials(rt: HostRuntime) -> Result<(), Fail> {
     let list = two(rt.alloc())?;
     assert_eq!(rt; list.len(), 2);
     assert_eq!(rt; list.at(1).coeffs(), MINUS_ONE.as_slice());
+    assert!(rt; list.get(2).is_none());
+    let items = list.into_vec();
+    assert_eq!(rt; items.len(), 2);
+    let list = Polys::from_vec(items);
+    assert_eq!(rt; list.as_slice().len(), 2);
+    assert!(rt;
+        list.get(1)
+            .is_some_and(|f| f.coeffs() == MINUS_ONE.as_slice())
+    );
     Ok(())
 }
 
