@@ -10,9 +10,9 @@ use Rattle.bfv_spec.specs.Scheme.{pk_share}
 use Rattle.bfv_spec.specs.Members.{Member, parts, noises, key_shares, decryption_shares}
 use Rattle.param_set.specs.Numbers.{numbers_of}
 use Rattle.share_spec.specs.Sets.{members, count}
-use Rattle.share_spec.specs.Dealing.{secret}
-use Rattle.share_spec.specs.Dealing.{parts as parts_dealt}
-use Rattle.share_laws.proofs.Shares.{parts_sum}
+use Rattle.share_spec.specs.Dealing.{parts as parts_by}
+use Rattle.share_spec.specs.Seeds.{secret, part as part_dealt, parts as parts_dealt}
+use Rattle.share_laws.proofs.Seeds.{parts_sum}
 use Rattle.session_spec.specs.Settings.{Setting, Offer}
 use Rattle.session_spec.specs.Shares.{part_of}
 
@@ -63,7 +63,7 @@ noises_count part noise js = ap length (noises_acting part noise js) ∙ length-
 -- the parts of as many members as the threshold sum to the secret, whatever their noises
 pub acting_sum : (p : Params) (public : List ℕ) (offers : List Offer) (seeds : List (List ℕ)) (set : ℕ) (noise : ℕ → List ℕ) → count set ≡ p.threshold →
     ring_total p.q p.n (parts (acting (part_of (setting_of p public offers) seeds set) noise (members set))) ≡ secret p.q p.n seeds
-unfolding parts_dealt
+unfolding parts_dealt parts_by part_dealt
 acting_sum p public offers seeds set noise many =
     ap (ring_total p.q p.n) (parts_acting (part_of (setting_of p public offers) seeds set) noise (members set))
     ∙ parts_sum p.q p.n p.threshold seeds set (omega arith) p.no_small_factor (omega arith) (omega arith)

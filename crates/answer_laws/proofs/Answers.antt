@@ -6,9 +6,9 @@ use Rattle.ring_spec.specs.Ring.{ring_sum}
 use Rattle.ring_spec.specs.Pairs.{Key}
 use Rattle.bfv_spec.specs.Scheme.{decryption}
 use Rattle.share_spec.specs.Sets.{count}
-use Rattle.share_spec.specs.Dealing.{secret}
-use Rattle.share_laws.proofs.Shares.{secret_is}
 use Rattle.param_set.specs.Numbers.{Numbers}
+use Rattle.share_spec.specs.Seeds.{secret}
+use Rattle.share_laws.proofs.Seeds.{secret_is}
 use Rattle.circuit_laws.specs.Carrying.{Opens, OutputsCarry}
 use Rattle.proto_names.specs.declared.signature.Signature.TheVariants.{Dec}
 use Rattle.session_rules.specs.States.{is_admitted, plan}

@@ -9,8 +9,8 @@ use Rattle.noise_ledger.specs.declared.over.Place.TheVariants.{Node as AtNode}
 use Rattle.param_set.specs.Numbers.{Numbers, numbers_of}
 use Rattle.noise_ledger.specs.Ledger.{place_bound}
 use Rattle.cipher_spec.specs.Ciphers.{cipher_at}
-use Rattle.share_spec.specs.Dealing.{secret}
-use Rattle.share_laws.proofs.Shares.{secret_is}
+use Rattle.share_spec.specs.Seeds.{secret}
+use Rattle.share_laws.proofs.Seeds.{secret_is}
 use Rattle.circuit_laws.specs.Nodes.{CarriesWithin, node_ciphers, node_values, NodesCarry}
 use Rattle.proto_names.specs.Instances.{is_done}
 use Rattle.proto_names.specs.declared.signature.Signature.TheVariants.{Pk}

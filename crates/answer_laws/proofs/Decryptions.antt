@@ -12,7 +12,7 @@ use Rattle.bfv_laws.proofs.Draws.{wide_poly_is, size_wide_poly}
 use Rattle.bfv_laws.proofs.Decryptions.{parameters_fit}
 use Rattle.bfv_laws.proofs.Parties.{joint_limit_decrypts}
 use Rattle.share_spec.specs.Sets.{members, count}
-use Rattle.share_spec.specs.Dealing.{secret}
+use Rattle.share_spec.specs.Seeds.{secret}
 use Rattle.circuit_laws.specs.Carrying.{Opens}
 use Rattle.proto_names.specs.Names.{rows_of}
 use Rattle.proto_names.specs.declared.signature.Signature.TheVariants.{Dec}

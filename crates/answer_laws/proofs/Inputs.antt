@@ -14,8 +14,8 @@ use Rattle.bfv_spec.specs.Scheme.{delta, encryption, Carries, IsPublicKey}
 use Rattle.bfv_spec.specs.Drawn.{ternary_poly, small_poly, drawn_encryption}
 use Rattle.bfv_laws.proofs.Noise.{drawn_carries}
 use Rattle.share_spec.specs.Sets.{count}
-use Rattle.share_spec.specs.Dealing.{secret}
-use Rattle.share_laws.proofs.Shares.{secret_is, secret_small}
+use Rattle.share_spec.specs.Seeds.{secret}
+use Rattle.share_laws.proofs.Seeds.{secret_is, secret_small}
 use Rattle.circuit_form.specs.declared.node.Node.{Node}
 use Rattle.noise_ledger.specs.declared.over.Place.{Place}
 use Rattle.param_set.specs.Numbers.{Numbers, numbers_of}

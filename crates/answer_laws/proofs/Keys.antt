@@ -11,7 +11,7 @@ use Rattle.bfv_spec.specs.Members.{parts, noises, key_shares}
 use Rattle.bfv_laws.proofs.Draws.{small_poly_is, size_small_poly}
 use Rattle.bfv_laws.proofs.Parties.{joint_key}
 use Rattle.share_spec.specs.Sets.{members, count}
-use Rattle.share_spec.specs.Dealing.{secret}
+use Rattle.share_spec.specs.Seeds.{secret}
 use Rattle.proto_names.specs.Names.{rows_of}
 use Rattle.proto_names.specs.declared.signature.Signature.TheVariants.{Pk}
 use Rattle.session_spec.specs.Settings.{Offer, seed_at}

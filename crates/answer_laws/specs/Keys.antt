@@ -4,7 +4,7 @@ use Rattle.bfv_spec.specs.Scheme.{IsPublicKey}
 use Rattle.param_set.specs.declared.params.Params.{Params}
 use Rattle.param_set.specs.Numbers.{numbers_of}
 use Rattle.share_spec.specs.Sets.{count}
-use Rattle.share_spec.specs.Dealing.{secret}
+use Rattle.share_spec.specs.Seeds.{secret}
 use Rattle.proto_names.specs.declared.instance.Instance.{Instance}
 use Rattle.session_rules.specs.States.{State}
 use Rattle.session_rules.specs.Facts.{Kept}

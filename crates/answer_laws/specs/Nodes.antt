@@ -7,7 +7,7 @@ use Rattle.noise_ledger.specs.declared.over.Place.TheVariants.{Node as AtNode}
 use Rattle.param_set.specs.Numbers.{numbers_of}
 use Rattle.noise_ledger.specs.Ledger.{place_bound}
 use Rattle.cipher_spec.specs.Ciphers.{cipher_at}
-use Rattle.share_spec.specs.Dealing.{secret}
+use Rattle.share_spec.specs.Seeds.{secret}
 use Rattle.circuit_laws.specs.Nodes.{CarriesWithin, node_ciphers, node_values}
 use Rattle.session_spec.specs.Settings.{Setting, nodes_at, values_at, IsSetting, HasValues}
 use Rattle.session_spec.specs.Outputs.{inputs_of}

@@ -8,7 +8,7 @@ ghost use Rattle.helper_main.specs.Parties.{number_of, IsPartyOf};
 
 use mod_ring::Ring;
 use param_set::Plain;
-use party_roll::{SeedParty, SeedRoll, Values};
+use party_roll::{JointDealing, SeedParty, SeedRoll, Values};
 use session_core::{Circuits, Offered};
 use session_script::{NamedCircuits, Script};
 use std::alloc::{AllocError, Global};
@@ -68,12 +68,13 @@ fn values_of(alloc: Global, script: &Script, p: u32) -> Result<Values, AllocErro
 fn party(
     alloc: Global,
     ring: &Ring,
-    roll: &SeedRoll,
+    joint: &JointDealing,
     script: &Script,
     p: u32,
 ) -> Result<SeedParty, AllocError>
     requires ring { ring.now.params ≡ script.now.params }
-    requires roll { roll.now.master ≡ script.now.master }
+    requires joint { joint.now.params ≡ ring.now.params }
+    requires roll { joint.now.roll.master ≡ script.now.master }
     requires accepted { IsAccepted (asked script.now) }
     requires some_party { 1 ≤ p }
     requires of_all { p ≤ script.now.params.parties }
@@ -81,10 +82,11 @@ fn party(
     ensures party { IfOk result (IsPartyOf script.now.params (asked script.now)) }
 {
     let values = values_of(alloc, script, p)?;
-    SeedParty::new(alloc, ring, roll, p, values)
+    SeedParty::from_joint(alloc, ring, joint, p, values)
 }
 
-/// The parties of a script, from 1 to N, each with the values of its own inputs.
+/// The parties of a script, from 1 to N, each with the values of its own inputs. Each party's dealing is
+/// drawn once for all of them.
 pub(crate) fn parties(
     alloc: Global,
     ring: &Ring,
@@ -99,9 +101,10 @@ pub(crate) fn parties(
     ensures parties { IfOk result (λ ps. All (IsPartyOf script.now.params (asked script.now))
         ps.items) }
 {
+    let joint = JointDealing::new(alloc, ring, roll)?;
     let mut parties = Vec::new(alloc);
     'parties: for before in 0..ring.params().parties() as u32 {
-        parties.push(party(alloc, ring, roll, script, before + 1)?)?;
+        parties.push(party(alloc, ring, &joint, script, before + 1)?)?;
     }
     Ok(parties)
 }

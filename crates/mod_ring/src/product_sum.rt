@@ -1,4 +1,5 @@
 ghost use Rattle.std.specs.Prelude.{◌≡◌, ◌+◌, ◌<◌, replicate, IfOk};
+ghost use Rattle.mod_ring.specs.Fits.{Fits};
 ghost use Rattle.ring_spec.specs.Ring.{ring_sum, ring_product};
 ghost use Rattle.mod_ring.specs.Evaluated.{EvaluatedFits};
 
@@ -23,7 +24,6 @@ pub struct ProductSum {
 
 impl Model for ProductSum {
     ghost use Rattle.std.specs.Prelude.{◌≡◌, ◌^◌, length};
-    ghost use Rattle.mod_ring.specs.Fits.{Fits};
     ghost use Rattle.mod_ring.specs.Evaluated.{Gathered, evaluated};
     ghost use Rattle.mod_ring.specs.WideSums.{remainders, AreWithin};
 

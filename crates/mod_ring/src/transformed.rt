@@ -1,4 +1,5 @@
 ghost use Rattle.std.specs.Prelude.{◌≡◌, IfOk};
+ghost use Rattle.mod_ring.specs.Fits.{Fits};
 ghost use Rattle.ring_spec.specs.Ring.{IsPoly, ring_product};
 ghost use Rattle.mod_ring.specs.Evaluated.{EvaluatedFits};
 
@@ -21,7 +22,6 @@ pub struct Transformed {
 
 impl Model for Transformed {
     ghost use Rattle.std.specs.Prelude.{◌^◌};
-    ghost use Rattle.mod_ring.specs.Fits.{Fits};
     ghost use Rattle.ring_spec.specs.Ring.{IsPoly};
     ghost use Rattle.mod_ring.specs.Evaluated.{Evaluated, evaluated};
 

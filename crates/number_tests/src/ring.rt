@@ -88,7 +88,7 @@ fn wraps_around_with_the_sign_changed(rt: HostRuntime) -> Result<(), Fail> {
 /// 3 X^3 and X^5.
 fn two_powers(alloc: Global, ring: &Ring) -> Result<Poly, AllocError>
     requires { ring.now.params.n ≡ 8 }
-    ensures { IfOk result (λ f. IsPoly ring.now.params.q ring.now.params.n f) }
+    ensures { IfOk result (λ f. Fits ring.now f) }
 {
     of_signed(alloc, ring, &[0, 0, 0, 3, 0, 1, 0, 0])
 }

@@ -4,7 +4,7 @@ use Rattle.std.specs.Prelude.{slice_index_or}
 use Rattle.draw_spec.specs.Streams.{party_seed}
 use Rattle.bfv_spec.specs.Shares.{honest_pk}
 use Rattle.dec_spec.specs.Decrypting.{honest_dec}
-use Rattle.share_spec.specs.Dealing.{part}
+use Rattle.share_spec.specs.Seeds.{part}
 use Rattle.param_set.specs.declared.params.Params.{Params}
 use Rattle.param_set.specs.Numbers.{numbers_of}
 use Rattle.proto_names.specs.declared.signature.Signature.TheVariants.{Pk, Dec}

@@ -1,4 +1,4 @@
-pub mod Dealt
+pub mod Sums
 pub mod Told
 pub mod Honest
 pub mod Placing

@@ -1,7 +1,7 @@
 -- The briefs from which parties make shares.
 use Rattle.std.specs.Prelude.{◌≡◌, Bool, true, false, length, All, IsTrue}
+use Rattle.param_set.specs.Moduli.{digit_rows}
 use Rattle.ring_spec.specs.Ring.{IsPoly}
-use Rattle.param_set.specs.Numbers.{digit_rows}
 use Rattle.param_set.specs.declared.params.Params.{Params}
 use Rattle.proto_names.specs.Names.{polys_of_brief}
 use Rattle.proto_names.specs.declared.signature.Signature.{Signature}

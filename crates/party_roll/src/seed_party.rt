@@ -1,15 +1,17 @@
 ghost use Rattle.std.specs.Prelude.{◌≡◌, ℕ, ◌<◌, ◌≤◌, [], ◌∷◌, true, All, Some, IfOk};
+ghost use Rattle.ring_spec.specs.Pairs.{KeyFits, CipherFits};
+ghost use Rattle.mod_ring.specs.Fits.{Fits};
 ghost use Rattle.ring_spec.specs.Ring.{IsPoly};
 ghost use Rattle.draw_spec.specs.Streams.{party_seed, input_stream};
 ghost use Rattle.bfv_spec.specs.Drawn.{drawn_encryption};
 ghost use Rattle.bfv_spec.specs.Shares.{honest_pk};
 ghost use Rattle.dec_spec.specs.Decrypting.{honest_dec};
-ghost use Rattle.share_spec.specs.Dealing.{share as share_at, part};
+ghost use Rattle.share_spec.specs.Seeds.{share as share_at, part};
 ghost use Rattle.party_roll.specs.Seeds.{seeds_of};
 ghost use Rattle.party_roll.specs.Values.{IsPlain};
 
+use crate::joint::JointDealing;
 use crate::party::Party;
-use crate::points::shared;
 use crate::seeds::SeedRoll;
 use crate::values::Values;
 use bfv_core::encrypt;
@@ -39,7 +41,8 @@ pub struct SeedParty {
 }
 
 impl SeedParty {
-    /// Party p of the roll, from 1 to N, with its values: all N parties deal to its point.
+    /// Party p of the roll, from 1 to N, with its values. All N parties deal for it alone; where several
+    /// parties are made, `from_joint` has each deal once.
     pub fn new(
         alloc: Global,
         ring: &Ring,
@@ -57,10 +60,35 @@ impl SeedParty {
         ensures seeds { IfOk result (λ party. ⟦<SeedParty as Party>⟧.seeds party ≡ seeds_of roll.now.master ring.now.params.parties) }
         ensures values { IfOk result (λ party. ⟦<SeedParty as Party>⟧.values party ≡ values) }
     {
-        let share = shared(alloc, ring, roll, p)?;
+        let joint = JointDealing::new(alloc, ring, roll)?;
+        SeedParty::from_joint(alloc, ring, &joint, p, values)
+    }
+
+    /// Party p of the roll whose parties dealt, from 1 to N, with its values.
+    pub fn from_joint(
+        alloc: Global,
+        ring: &Ring,
+        joint: &JointDealing,
+        p: u32,
+        values: Values,
+    ) -> Result<SeedParty, AllocError>
+        requires ring { joint.now.params ≡ ring.now.params }
+        requires some_party { 1 ≤ p }
+        requires of_all { p ≤ ring.now.params.parties }
+        requires plain { All (IsPlain ring.now.params.t ring.now.params.n) values }
+        ensures params { IfOk result (λ party. ⟦<SeedParty as Party>⟧.params party ≡ ring.now.params) }
+        ensures number { IfOk result (λ party. ⟦<SeedParty as Party>⟧.number party ≡ p) }
+        ensures public { IfOk result (λ party. ⟦<SeedParty as Party>⟧.public party
+            ≡ party_seed joint.now.roll.master 0) }
+        ensures tells { IfOk result (λ party. ⟦<SeedParty as Party>⟧.tells party ≡ true) }
+        ensures seeds { IfOk result (λ party. ⟦<SeedParty as Party>⟧.seeds party
+            ≡ seeds_of joint.now.roll.master ring.now.params.parties) }
+        ensures values { IfOk result (λ party. ⟦<SeedParty as Party>⟧.values party ≡ values) }
+    {
+        let share = joint.share(alloc, ring, p)?;
         Ok(SeedParty {
             params: *ring.params(),
-            roll: roll.copied(),
+            roll: joint.roll().copied(),
             number: p,
             share,
             values,
@@ -68,7 +96,7 @@ impl SeedParty {
     }
 
     /// The part of the secret that it takes part with when a set acts.
-    #[tactic(auto, unfolding(share_spec::specs::Dealing::part))]
+    #[tactic(auto, unfolding(share_spec::specs::Seeds::part, share_spec::specs::Seeds::share, share_spec::specs::Dealing::part))]
     fn part(&self, alloc: Global, ring: &Ring, set: PartySet) -> Result<Poly, AllocError>
         requires { self.now.params ≡ ring.now.params }
         ensures value { IfOk result (λ f. f ≡ part ring.now.params.q ring.now.params.n ring.now.params.threshold (seeds_of self.now.roll.master ring.now.params.parties) set.bits self.now.number) }
@@ -123,8 +151,6 @@ impl SeedParty {
     ghost use Rattle.proto_names.specs.Names.{rows_of};
     ghost use Rattle.party_roll.specs.Briefs.{IsBrief};
     ghost use Rattle.std.specs.Prelude.{length};
-    ghost use Rattle.mod_ring.specs.Fits.{Fits};
-    ghost use Rattle.ring_spec.specs.Pairs.{KeyFits, CipherFits};
 
     /// The rows of its share of an instance.
     #[tactic(auto, using(crate::proofs::Honest::key_rows, crate::proofs::Honest::dec_rows), unfolding(proto_names::specs::Names::rows_of))]

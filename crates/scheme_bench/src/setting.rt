@@ -1,6 +1,6 @@
 ghost use Rattle.std.specs.Prelude.{◌≤◌, ◌<◌, IfOk};
+ghost use Rattle.ring_spec.specs.Pairs.{KeyFits};
 ghost use Rattle.ring_spec.specs.Ring.{IsPoly};
-ghost use Rattle.bfv_core.specs.Fits.{KeyFits};
 
 use crate::work::Work;
 use bfv_core::encrypt;

@@ -138,7 +138,7 @@ fn coefficients_of_two_parties(rt: HostRuntime) -> Result<(), AllocError> {
 const COMPOSITE: [u64; 2] = [9_839_901_637_616_593, 6_810_591_325_885_313];
 
 #[test]
-#[tactic(auto, unfolding(param_set::specs::Numbers::indivisible))]
+#[tactic(auto, unfolding(param_set::specs::Moduli::indivisible))]
 fn coefficients_modulo_composite_numbers(rt: HostRuntime) -> Result<(), AllocError> {
     for (bits, j, first, second) in [
         (5, 1, 4_919_950_818_808_298, 3_405_295_662_942_658),

@@ -6,7 +6,7 @@ use Rattle.ring_spec.specs.Aggregate.{ring_total}
 use Rattle.bfv_spec.specs.Shares.{honest_pk, pk_from}
 use Rattle.dec_spec.specs.Decrypting.{honest_dec}
 use Rattle.share_spec.specs.Sets.{members}
-use Rattle.share_spec.specs.Dealing.{part}
+use Rattle.share_spec.specs.Seeds.{part}
 use Rattle.proto_names.specs.Names.{rows_of}
 use Rattle.proto_names.specs.declared.signature.Signature.{Signature}
 use Rattle.proto_names.specs.declared.signature.Signature.TheVariants.{Pk, Rlk1, Rlk2, Rot, Dec}

@@ -86,8 +86,8 @@ impl Dealing {
         requires right { All (Fits ring.now) other.now }
         ensures values { (p : ℕ) → value_at ring.now.params.q ring.now.params.n self.new p
             ≡ ring_sum ring.now.params.q ring.now.params.n
-                (value_at ring.now.params.q ring.now.params.n self.old p)
-                (value_at ring.now.params.q ring.now.params.n other.now p) }
+            (value_at ring.now.params.q ring.now.params.n self.old p)
+            (value_at ring.now.params.q ring.now.params.n other.now p) }
         ensures number { length self.new ≡ length self.old }
         ensures fits { All (Fits ring.now) self.new }
     {

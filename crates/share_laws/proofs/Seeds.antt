@@ -4,9 +4,9 @@ use Rattle.std.specs.Prelude.{IsTrue, slice_index_or}
 use Rattle.std.specs.List.{range_with_len}
 use Rattle.std.proofs.lemmas.List.{ext_get_or}
 use Rattle.std.proofs.lemmas.List.FromFn.{length-range_with_len, length-map-range_with_len, get_or-map-range_with_len}
-use Rattle.param_set.specs.Numbers.{indivisible}
+use Rattle.param_set.specs.Moduli.{indivisible}
 use Rattle.ring_spec.specs.Ring.{IsPoly, size, ring_multiple}
-use Rattle.ring_laws.specs.Aggregate.{ring_total}
+use Rattle.ring_spec.specs.Aggregate.{ring_total}
 use Rattle.share_spec.specs.Sets.{members}
 use Rattle.share_spec.specs.Lagrange.{lagrange}
 use Rattle.share_spec.specs.Dealing.{own_part, dealt, dealt_by, own_by}

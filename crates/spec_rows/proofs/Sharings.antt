@@ -4,7 +4,9 @@ use Rattle.ring_spec.specs.Ring.{total, residue, residues, ring_sum, ring_multip
 use Rattle.ring_spec.specs.Aggregate.{ring_total}
 use Rattle.share_spec.specs.Sets.{has, members_to, members, count}
 use Rattle.share_spec.specs.Lagrange.{is_quotient, quotient, ratio, product_over, lagrange}
-use Rattle.share_spec.specs.Dealing.{own_part, dealing_at, dealing, value_at, dealt, share, secret, part, parts}
+use Rattle.share_spec.specs.Dealing.{own_part, dealing_at, dealing, value_at, dealt, own_by}
+use Rattle.share_spec.specs.Dealing.{dealt_by as dealt_by_party, share as share_by, secret as secret_by, part as part_by, parts as parts_by}
+use Rattle.share_spec.specs.Seeds.{seed_in, dealers_in, share, secret, part, parts}
 
 -- the part 1 - X, then 40 + 7X and 5 - 7X, with the point and with its square
 abbrev pub dealing_of_three : List (List ℕ)
@@ -65,18 +67,33 @@ dealt_by seed = refl
 
 -- a share is the sum of what all deal to its point, and the secret is the sum of all parts
 pub shares : (a b : List ℕ) → share 97 2 3 (a ∷ b ∷ []) 4 ≡ ring_sum 97 2 (dealt 97 2 3 4 a) (ring_sum 97 2 (dealt 97 2 3 4 b) (0 ∷ 0 ∷ []))
-unfolding share ring_total residues residue
+unfolding share share_by dealt_by_party seed_in dealers_in ring_total residues residue
 shares a b = refl
 
 pub secrets : (a b : List ℕ) → secret 97 2 (a ∷ b ∷ []) ≡ ring_sum 97 2 (own_part 97 2 a) (ring_sum 97 2 (own_part 97 2 b) (0 ∷ 0 ∷ []))
-unfolding secret ring_total residues residue
+unfolding secret secret_by own_by seed_in dealers_in ring_total residues residue
 secrets a b = refl
 
 -- those of the parties 1, 3 and 4; a party outside the set takes no part
 pub all_parts : (seeds : List (List ℕ)) → parts 97 2 3 seeds 13 ≡ ring_multiple 97 2 2 (share 97 2 3 seeds 1) ∷ ring_multiple 97 2 95 (share 97 2 3 seeds 3) ∷ ring_multiple 97 2 1 (share 97 2 3 seeds 4) ∷ []
-unfolding parts part lagrange members members_to has product_over ratio quotient is_quotient residue
+unfolding parts parts_by part_by share lagrange members members_to has product_over ratio quotient is_quotient residue
 all_parts seeds = refl
 
 pub no_part : (seeds : List (List ℕ)) → part 97 2 3 seeds 13 2 ≡ ring_multiple 97 2 0 (share 97 2 3 seeds 2)
-unfolding part lagrange has
+unfolding part part_by share lagrange has
 no_part seeds = refl
+
+-- ---- other dealers: the parties 2 and 5, for the threshold 2
+
+pub shares_of_two : (seed : ℕ → List ℕ) → share_by 97 2 2 seed (2 ∷ 5 ∷ []) 4 ≡ ring_sum 97 2 (dealt 97 2 2 4 (seed 2)) (ring_sum 97 2 (dealt 97 2 2 4 (seed 5)) (0 ∷ 0 ∷ []))
+unfolding share_by dealt_by_party ring_total residues residue
+shares_of_two seed = refl
+
+pub secret_of_two : (seed : ℕ → List ℕ) → secret_by 97 2 seed (2 ∷ 5 ∷ []) ≡ ring_sum 97 2 (own_part 97 2 (seed 2)) (ring_sum 97 2 (own_part 97 2 (seed 5)) (0 ∷ 0 ∷ []))
+unfolding secret_by own_by ring_total residues residue
+secret_of_two seed = refl
+
+-- the parties of a set act with what these dealt
+pub parts_of_two : (seed : ℕ → List ℕ) → parts_by 97 2 2 seed (2 ∷ 5 ∷ []) 3 ≡ ring_multiple 97 2 2 (share_by 97 2 2 seed (2 ∷ 5 ∷ []) 1) ∷ ring_multiple 97 2 96 (share_by 97 2 2 seed (2 ∷ 5 ∷ []) 2) ∷ []
+unfolding parts_by part_by lagrange members members_to has product_over ratio quotient is_quotient residue
+parts_of_two seed = refl

@@ -9,7 +9,7 @@ use Rattle.bfv_spec.specs.Drawn.{drawn_encryption}
 use Rattle.bfv_spec.specs.Shares.{honest_pk, pk_from}
 use Rattle.dec_spec.specs.Decrypting.{honest_dec}
 use Rattle.share_spec.specs.Sets.{has, members_to, members}
-use Rattle.share_spec.specs.Dealing.{part}
+use Rattle.share_spec.specs.Seeds.{part}
 use Rattle.circuit_form.specs.Circuits.{owners}
 use Rattle.circuit_form.specs.Values.{given_after}
 use Rattle.cipher_spec.specs.Ciphers.{node_cipher, ciphers_from, output_cipher}

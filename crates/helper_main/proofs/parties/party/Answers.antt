@@ -6,5 +6,5 @@ use Rattle.helper_main.proofs.parties.party.Goals as goal
 
 pub returns-clause-party : goal.returns-clause-party
 returns-clause-party c =
-    party_made (asked c.args.script.now) c.args.ring.now.params c.args.script.now.params c.args.p c.args.roll.now.master c.in_ok-values.values c.new.result
-    c.requires.ring refl c.requires.roll c.in_ok-values.ensures c.new.ensures.params c.new.ensures.public c.new.ensures.seeds c.new.ensures.number c.new.ensures.values
+    party_made (asked c.args.script.now) c.args.ring.now.params c.args.script.now.params c.args.p c.args.joint.now.roll.master c.in_ok-values.values c.from_joint.result
+    c.requires.ring refl c.requires.roll c.in_ok-values.ensures c.from_joint.ensures.params c.from_joint.ensures.public c.from_joint.ensures.seeds c.from_joint.ensures.number c.from_joint.ensures.values
