@@ -11,6 +11,7 @@
 #![tactic(auto)]
 
 mod entries;
+mod fixed_primes;
 mod pairs;
 mod poly;
 mod product_sum;
@@ -21,6 +22,7 @@ mod transformed;
 mod turns;
 mod wide_sums;
 
+pub use fixed_primes::whole_tables;
 pub use mod_inverse::inverse;
 pub use pairs::{Ciphertext, PublicKey};
 pub use poly::{Poly, Polys};
