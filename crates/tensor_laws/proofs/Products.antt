@@ -39,8 +39,8 @@ tensor_carried q n t w v1 v2 s c d m l h ht ps ls one two =
     let D = delta q t in let r = remainder q t in let half = q / 2 in
     let S = centred q s in let SS = wrapped n S S in
     let left = factor_of q n t w v1 s c m h ht ps ls one in let right = factor_of q n t w v2 s d l h ht ps ls two in
-    let C0 = centred q c.c0 in let C1 = centred q c.c1 in let D0 = centred q d.c0 in let D1 = centred q d.c1 in
-    let X0 = wrapped n C0 D0 in let X1 = plus (wrapped n C0 D1) (wrapped n C1 D0) in let X2 = wrapped n C1 D1 in
+    let C0 = centred q c.c0 in let C1 = centred q c.c1 in let B0 = centred q d.c0 in let B1 = centred q d.c1 in
+    let X0 = wrapped n C0 B0 in let X1 = plus (wrapped n C0 B1) (wrapped n C1 B0) in let X2 = wrapped n C1 B1 in
     let O0 = scaled q t X0 in let O1 = scaled q t X1 in let O2 = scaled q t X2 in
     let x = tensor q n t c d in let f = triple_phase q n s x in
     let ml = ring_product t n m l in let M = coefficient ml in
@@ -74,7 +74,7 @@ tensor_carried q n t w v1 v2 s c d m l h ht ps ls one two =
       within = λ i p.
           let P = wrapped n (centred_phase q n s c) (centred_phase q n s d) i in
           let rounded : pos q *ℤ T i ≡ pos t *ℤ P +ℤ d_all i =
-          rounded_is q t n S O0 O1 O2 X0 X1 X2 i p ∙ ap (λ (u : ℤ). pos t *ℤ u +ℤ d_all i) (three_is n S C0 C1 D0 D1 i p) in
+          rounded_is q t n S O0 O1 O2 X0 X1 X2 i p ∙ ap (λ (u : ℤ). pos t *ℤ u +ℤ d_all i) (three_is n S C0 C1 B0 B1 i p) in
           let is = product_is q t (get_or ml i 0) (T i) P (wrapped n left.whole right.whole i) (X i) (Y i) (d_all i) (whole.by i) ht rounded
           (squared_is q t n (centred_phase q n s c) (centred_phase q n s d) left.whole right.whole left.rest right.rest left.split right.split i p) (whole.is i p) in
           let most = product_within q t r n a k y1 y2 z (get_or ml i 0) (Z i) (X i) (Y i) (d_all i) h ht (omega arith) (entry_below t n ml i (product_poly t n m l ht) p)
