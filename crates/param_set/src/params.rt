@@ -74,36 +74,6 @@ impl Params {
         })
     }
 
-    /// The frame of the first scripts: n = 8, q = 7 * 2^52 + 1, t = 16, digits of 8 bits that aren't
-    /// balanced, and noise and flood within 1, for `threshold` of `parties` parties.
-    pub fn frame(parties: u64, threshold: u64) -> Params
-        requires at_least_one { 1 ≤ threshold }
-        requires threshold_of_all { threshold ≤ parties }
-        requires at_most_32 { parties ≤ 32 }
-        ensures n { result.n ≡ 8 }
-        ensures q { result.q ≡ 31525197391593473 }
-        ensures t { result.t ≡ 16 }
-        ensures digit_bits { result.digit_bits ≡ 8 }
-        ensures balanced { result.balanced ≡ false }
-        ensures err { result.err ≡ 1 }
-        ensures flood { result.flood ≡ 1 }
-        ensures parties { result.parties ≡ parties }
-        ensures threshold { result.threshold ≡ threshold }
-    {
-        Params {
-            n: 8,
-            q: 31_525_197_391_593_473,
-            t: 16,
-            digit_bits: 8,
-            balanced: false,
-            err: 1,
-            flood: 1,
-            parties,
-            threshold,
-            psi: 1_791_537_114_801_093,
-        }
-    }
-
     /// The same parameters, with balanced digits.
     pub fn balanced(self) -> Params
         ensures numbers { numbers_of result ≡ record (numbers_of self) { balanced = true } }

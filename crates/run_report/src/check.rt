@@ -130,8 +130,9 @@ fn push_circuit(text: &mut Vec<u8>, params: &Params, named: &NamedCircuit) -> Re
     text.extend_from_slice(named.name())?;
     text.push(b'\n')?;
     let circuit = named.circuit();
-    let mut bounds = vec![in *text.allocator(); 0u128; circuit.len() as usize]?;
-    push_verdict(text, params, circuit, named.values(), bounds.as_mut_slice())
+    let mut bounds = [0u128; 256];
+    let places = &mut bounds[..circuit.len() as usize];
+    push_verdict(text, params, circuit, named.values(), places)
 }
 
 // Puts the lines of all circuits behind a text.

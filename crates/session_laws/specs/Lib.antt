@@ -1,3 +1,4 @@
+pub mod Laws
 pub mod Beginnings
 pub mod Constancy
 pub mod Orders

@@ -7,7 +7,7 @@ use Rattle.proto_names.specs.declared.instance.Instance.{Instance}
 use Rattle.session_rules.specs.States.{State, circuit, has_done}
 use Rattle.session_rules.specs.Facts.{is_begun}
 use Rattle.session_spec.specs.Settings.{Setting}
-use Rattle.session_spec.specs.Outputs.{key_in, input_of, output_of}
+use Rattle.session_spec.specs.Outputs.{key_in, keys_in, input_of, output_of}
 use Rattle.session_spec.specs.Honesty.{BringsShare, BringsInput, BringsOutput}
 use Rattle.session_laws.specs.Constancy.{LeadsOn}
 
@@ -20,7 +20,7 @@ pub record ContentStands (w : Setting) (seeds : List (List ℕ)) (s t : State) :
   pub input : (c k : ℕ) (ct : Cipher) → has_done Pk s.instances ≡ true
       → ct ≡ input_of w seeds (key_in w seeds s.instances) c k → BringsInput w seeds t c k ct
   pub output : (who c : ℕ) (ct : Cipher) → is_begun (circuit s.circuits c) ≡ true
-      → ct ≡ output_of w seeds (key_in w seeds s.instances) c → BringsOutput w seeds t who c ct
+      → ct ≡ output_of w seeds (keys_in w seeds s.instances c) c → BringsOutput w seeds t who c ct
 
 -- so it is at every later state, whatever is called in between and by whom
 abbrev pub ContentStandsOn : Type 0

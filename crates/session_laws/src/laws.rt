@@ -1,6 +1,6 @@
 //! What holds of honest stores, call by call: each function states a law, and does nothing.
-ghost use Rattle.session_spec.specs.Laws.{AnswersArePlain, OutputsStay};
-ghost use Rattle.session_spec.specs.Laws.{OpeningIsHonest, CallsKeepHonest, SharesAreBrought, InputsAreBrought, OutputsAreBrought, HeldKeysAreKeys, ReadyOnesHaveInputs};
+ghost use Rattle.session_laws.specs.Laws.{AnswersArePlain, OutputsStay};
+ghost use Rattle.session_laws.specs.Laws.{OpeningIsHonest, CallsKeepHonest, SharesAreBrought, InputsAreBrought, OutputsAreBrought, HeldKeysAreKeys, CircuitsHaveTheirKeys, ReadyOnesHaveInputs};
 ghost use Rattle.session_laws.specs.Beginnings.{OpeningStands};
 ghost use Rattle.session_laws.specs.Constancy.{HistoriesLeadOn, InputsStay, IssuedOnesStay, KeyStays, ReadyOnesStay};
 ghost use Rattle.session_laws.specs.Orders.{OrdersAreOne, RowsAreTotals};
@@ -48,8 +48,10 @@ pub fn calls()
     ensures outputs { OutputsAreBrought }
 {}
 
-/// The key that is handed out is the public key, and a circuit that is ready has its inputs.
+/// The key that is handed out is the public key, each circuit's keys are those of honest parties, and a circuit that is
+/// ready has its inputs.
 pub fn holdings()
-    ensures keys { HeldKeysAreKeys }
+    ensures key { HeldKeysAreKeys }
+    ensures keys { CircuitsHaveTheirKeys }
     ensures inputs { ReadyOnesHaveInputs }
 {}

@@ -57,7 +57,7 @@ turn_is_wanting w = contains_nil 3 (w.turns 0 3 (omega arith) refl (0, omega ari
 pub turn_too_many : IsWhole (record turning { turns = 3 ∷ 5 ∷ [] }) → ⊥
 turn_too_many w = let t = w.turned 5 (1, omega arith, refl) in turn_at t.0 t.1 t.3
 
-pub begins_taken : IsWhole (any_two (record { owners = []; product = false; turns = []; opening = Taken 1 })) → ⊥
+pub begins_taken : IsWhole (any_two (record { nodes = []; owners = []; product = false; turns = []; opening = Taken 1 })) → ⊥
 begins_taken w = true≢false (w.begins 0 (omega arith))
 
 -- ---- states that calls lead to

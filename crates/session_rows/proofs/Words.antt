@@ -23,11 +23,11 @@ use Rattle.session_rules.specs.Courses.{serial_run}
 
 -- a circuit of the inputs of some parties, without a product of two of them
 abbrev pub sum_of : List ℕ → Plan
-sum_of owners = record { owners = owners; product = false; turns = []; opening = Idle }
+sum_of owners = record { nodes = []; owners = owners; product = false; turns = []; opening = Idle }
 
 -- a circuit with a product of inputs
 abbrev pub product_of : List ℕ → Plan
-product_of owners = record { owners = owners; product = true; turns = []; opening = Idle }
+product_of owners = record { nodes = []; owners = owners; product = true; turns = []; opening = Idle }
 
 -- a constant
 abbrev pub constant : Plan
@@ -35,14 +35,14 @@ constant = sum_of []
 
 -- a circuit of inputs with rotations
 abbrev pub turned_by : List ℕ → List ℕ → Plan
-turned_by turns owners = record { owners = owners; product = false; turns = turns; opening = Idle }
+turned_by turns owners = record { nodes = []; owners = owners; product = false; turns = turns; opening = Idle }
 
 -- a product of products that are rotated between, whose last node has too much noise
 abbrev pub too_noisy : CircuitState
 too_noisy = Refused (Node 6) 62170732878577645 985162418487295
 
 abbrev pub noisy : Plan
-noisy = record { owners = 1 ∷ 2 ∷ []; product = true; turns = 7 ∷ []; opening = too_noisy }
+noisy = record { nodes = []; owners = 1 ∷ 2 ∷ []; product = true; turns = 7 ∷ []; opening = too_noisy }
 
 -- one circuit, of T parties that act, with a gadget of 7 rows
 abbrev pub session : ℕ → Plan → Fixed
@@ -67,6 +67,7 @@ refused_alone = record {
   threshold = 2;
   rows = 7;
   plans = record {
+    nodes = [];
     owners = 1 ∷ 2 ∷ [];
     product = true;
     turns = [];
@@ -80,7 +81,7 @@ abbrev pub flooded : Fixed
 flooded = record {
   threshold = 1;
   rows = 7;
-  plans = record { owners = []; product = false; turns = []; opening = Refused Output 240514433191 240514433190 } ∷ [];
+  plans = record { nodes = []; owners = []; product = false; turns = []; opening = Refused Output 240514433191 240514433190 } ∷ [];
   turns = [];
 }
 

@@ -2,7 +2,7 @@
 use Rattle.std.proofs.Common.{◌≡◌, ◌∙◌, sym, ap, subst, refl, ℕ, ◌<◌, Bool, true, false, cond, inl, inr, List, [], ◌∷◌, length, map, set, Contains, arith}
 use Rattle.std.proofs.lemmas.Bool.{both_ways, cases_eq, cases_lt, eq-eqb}
 use Rattle.std.proofs.lemmas.List.{get_or-set_same, get_or-set_other, set_past}
-use Rattle.proto_names.specs.Instances.{with_share, counted_at, after_share, missing, is_done}
+use Rattle.proto_names.specs.Instances.{with_share, counted_at, after_share, is_done}
 use Rattle.proto_names.specs.declared.signature.Signature.TheVariants.{Dec}
 use Rattle.proto_names.specs.declared.instance.Instance.{Instance}
 use Rattle.proto_names.specs.declared.instance.Stage.TheVariants.{Complete}
@@ -26,7 +26,6 @@ use Rattle.session_rules.proofs.Contained.{contains_map, any_from, any_true}
 use Rattle.session_rules.proofs.Marks.{done_is, done_from}
 use Rattle.session_rules.proofs.Judged.{judged}
 use Rattle.session_rules.proofs.Stepwise.{done_beside}
-use Rattle.session_rules.proofs.Later.{later_reflexive}
 use Rattle.session_rules.proofs.Shares.{answered_other, decides_dec}
 use Rattle.session_rules.proofs.Keeps.{waits, deed_next, done_next, opening_kept, state_kept}
 use Rattle.session_rules.proofs.Deliveries.{keys_stay}

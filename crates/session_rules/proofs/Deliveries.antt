@@ -1,15 +1,12 @@
 -- What a share meets; that keys and first rounds stay; and who has sent to a complete instance.
-use Rattle.std.proofs.Common.{◌≡◌, ◌≢◌, ◌∙◌, sym, ap, subst, refl, ℕ, ◌+◌, ◌<◌, ◌^◌, Bool, true, false, List, [], ◌∷◌, ◌++◌, length, get_or, Contains, Option, Some, None, arith}
+use Rattle.std.proofs.Common.{◌≡◌, ◌≢◌, ◌∙◌, sym, ap, subst, refl, ℕ, ◌<◌, Bool, true, false, List, ◌∷◌, length, get_or, Contains, Some, arith}
 use Rattle.std.specs.Prelude.{if◌then◌else◌, nat_eq}
-use Rattle.std.proofs.lemmas.Bool.{eq-eqb, ne_eqb, both_ways, cases_Bool, eqb-true}
-use Rattle.std.proofs.lemmas.List.Elements.{Contains-get_or, Contains-append_cases}
-use Rattle.std.proofs.lemmas.List.{append_assoc}
+use Rattle.std.proofs.lemmas.Bool.{eq-eqb, ne_eqb}
+use Rattle.std.proofs.lemmas.List.Elements.{Contains-get_or}
 use Rattle.share_spec.specs.Sets.{has, count}
 use Rattle.proto_names.specs.Names.{rows_of, is_void}
 use Rattle.proto_names.specs.Instances.{instance, is_done, missing, with_share, counted_at, after_share}
 use Rattle.proto_names.specs.declared.sets.PartySet.{PartySet}
-use Rattle.proto_names.specs.declared.signature.Signature.{Signature}
-use Rattle.proto_names.specs.declared.signature.Signature.TheVariants.{Dec}
 use Rattle.proto_names.specs.declared.instance.Instance.{Instance}
 use Rattle.proto_names.specs.declared.instance.Stage.{Stage}
 use Rattle.proto_names.specs.declared.instance.Stage.TheVariants.{Opened, Complete, Void}
@@ -20,18 +17,17 @@ use Rattle.session_rules.specs.declared.reply.Reply.{Reply}
 use Rattle.session_rules.specs.declared.reply.Reply.TheVariants as reply
 use Rattle.session_rules.specs.declared.deed.Deed.{Deed}
 use Rattle.session_rules.specs.declared.deed.Deed.TheVariants.{Nothing, Joins, Loses, Counts, Gives, Turns}
-use Rattle.session_rules.specs.declared.deed.Verdict.{Verdict}
 use Rattle.session_rules.specs.declared.state.CircuitState.TheVariants.{Refused, Idle, Taken, Evaluated, Answered}
 use Rattle.session_rules.specs.declared.fixed.Fixed.{Fixed}
-use Rattle.session_rules.specs.States.{State, circuit, opening, has_done}
+use Rattle.session_rules.specs.States.{State, has_done}
 use Rattle.session_rules.specs.Deeds.{is_last, changed, done}
 use Rattle.session_rules.specs.Steps.{says, does, deliver, by_stage, accepted, counted, judge, step}
-use Rattle.session_rules.specs.Histories.{after, replayed, state_after, IsLegal}
-use Rattle.session_rules.specs.Facts.{IsLive, IsSameLater, IsLater, Kept, TakesPart, SharesAreWanted, SharesAreCountedOnce, ShapesAreRefused, CompleteOnesLackNone, CompleteOnesHaveAll, KeysStay, FirstRoundsStay, HasAll, CompletedOnesHaveAll}
-use Rattle.session_rules.specs.Allowed.{Allows, IsCounted}
+use Rattle.session_rules.specs.Histories.{after, replayed, state_after}
+use Rattle.session_rules.specs.Facts.{IsSameLater, IsLater, Kept, TakesPart, SharesAreWanted, SharesAreCountedOnce, ShapesAreRefused, CompleteOnesLackNone, CompleteOnesHaveAll, KeysStay, FirstRoundsStay, HasAll, CompletedOnesHaveAll}
+use Rattle.session_rules.specs.Allowed.{Allows}
 use Rattle.session_rules.proofs.Judged.{judged}
 use Rattle.session_rules.proofs.Contained.{contains_map, any_true, any_from}
-use Rattle.session_rules.proofs.Marks.{IsDone, done_is, done_from, instance_within, instance_id, found, numbered_at, one_number, complete_lives}
+use Rattle.session_rules.proofs.Marks.{IsDone, done_is, done_from, instance_within, instance_id, found, one_number, complete_lives}
 use Rattle.session_rules.proofs.PartySets.{nobody_outside, same_sets}
 use Rattle.session_rules.proofs.Shares.{lacking_opened}
 use Rattle.session_rules.proofs.Later.{later_transitive}

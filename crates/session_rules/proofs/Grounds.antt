@@ -1,12 +1,11 @@
 -- A circuit that is begun has its inputs and its keys, in every state that calls lead to.
 use Rattle.std.proofs.Common.{◌≡◌, ◌∙◌, sym, ap, subst, refl, ℕ, zero, suc, Bool, true, false, cond, ◌⊎◌, inl, inr, List, [], ◌∷◌, ◌++◌, length, map, get_or, set, slice_index_or, Contains, Some, arith, length-set}
-use Rattle.std.specs.Prelude.{nat_eq, replicate}
+use Rattle.std.specs.Prelude.{replicate}
 use Rattle.std.specs.List.{list_all}
 use Rattle.std.proofs.lemmas.Bool.{both_ways, cases_Bool, cases_eq, cases_lt, and_parts, and_from}
 use Rattle.std.proofs.lemmas.List.{get_or-map, get_or-set_same, get_or-set_other, get_or_past, set_past, length-map, length-replicate, get_or-replicate}
 use Rattle.std.proofs.lemmas.List.Elements.{Contains-push_cases}
-use Rattle.proto_names.specs.Groups.{with_party, without_party}
-use Rattle.proto_names.specs.Instances.{instance, missing, after_share, after_void, fresh}
+use Rattle.proto_names.specs.Instances.{after_share, after_void, fresh}
 use Rattle.proto_names.specs.declared.signature.Signature.{Signature}
 use Rattle.proto_names.specs.declared.signature.Signature.TheVariants.{Pk, Rlk2, Rot, Dec}
 use Rattle.proto_names.specs.declared.instance.Instance.{Instance}
@@ -22,7 +21,7 @@ use Rattle.session_rules.specs.declared.fixed.Fixed.{Fixed}
 use Rattle.session_rules.specs.States.{State, circuit, plan, no_plan, is_refused, is_given, has_done, opening, none_given, opening_of}
 use Rattle.session_rules.specs.Issues.{keys as needed_keys, next_move, instances_after, moved, least_present}
 use Rattle.session_rules.specs.Deeds.{after_loss, is_last, answered_by, with_input, changed, done}
-use Rattle.session_rules.specs.Steps.{is_given_input, has_keys, ready, judge, step}
+use Rattle.session_rules.specs.Steps.{is_given_input, has_keys, judge, step}
 use Rattle.session_rules.specs.Histories.{after, state_after}
 use Rattle.session_rules.specs.Facts.{is_begun, Kept, IsLater, RefusedOnesBeganSo}
 use Rattle.session_rules.specs.Grounds.{CallsGround, HistoriesGround, Grounded, IsWhole}
@@ -35,7 +34,7 @@ use Rattle.session_rules.proofs.MoveKinds.{MoveIs, gives_up, second, other, move
 use Rattle.session_rules.proofs.Readiness.{keys_from, ready_is, found_ready}
 use Rattle.session_rules.proofs.Shares.{decides_dec, answered_other, answered_its}
 use Rattle.session_rules.proofs.Later.{circuit_set}
-use Rattle.session_rules.proofs.Keeps.{Waits, waits, IsTurned, turned, deed_next, move_next, after_next, opening_kept}
+use Rattle.session_rules.proofs.Keeps.{Waits, waits, turned, deed_next, move_next, after_next, opening_kept}
 use Rattle.session_rules.proofs.Deliveries.{keys_stay}
 use Rattle.session_rules.proofs.Within.{Was, was_or_new}
 

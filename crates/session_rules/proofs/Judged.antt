@@ -1,9 +1,9 @@
 -- What is done is allowed: the one walk through the replies of the nine calls.
-use Rattle.std.proofs.Common.{◌≡◌, refl, ℕ, Bool, true, false, not, nat_eq, length, slice_index_or, find, Option, Some, None, cond}
+use Rattle.std.proofs.Common.{◌≡◌, refl, ℕ, Bool, true, false, not, nat_eq, length, slice_index_or, Option, Some, None}
 use Rattle.std.specs.Prelude.{if◌then◌else◌}
 use Rattle.std.proofs.lemmas.Bool.{not-false, eqb-true}
 use Rattle.share_spec.specs.Sets.{has}
-use Rattle.proto_names.specs.Names.{rows_of, is_void}
+use Rattle.proto_names.specs.Names.{rows_of}
 use Rattle.proto_names.specs.Instances.{instance, missing, owed_shares}
 use Rattle.proto_names.specs.declared.signature.Signature.TheVariants.{Pk}
 use Rattle.proto_names.specs.declared.instance.Instance.{Instance}

@@ -1,9 +1,9 @@
 -- Each deed and each move keeps what holds, and changes nothing that never changes.
-use Rattle.std.proofs.Common.{◌≡◌, ◌≢◌, ◌∙◌, sym, subst, refl, ℕ, true, false, inl, inr, List, [], ◌∷◌, set, Some, Contains, arith, length-set}
+use Rattle.std.proofs.Common.{◌≡◌, ◌∙◌, sym, subst, refl, ℕ, true, false, inl, inr, List, [], ◌∷◌, set, Some, Contains, arith, length-set}
 use Rattle.std.proofs.lemmas.Bool.{both_ways, cases_eq}
 use Rattle.std.proofs.lemmas.List.{get_or-set_other, length-map}
 use Rattle.share_spec.specs.Sets.{has}
-use Rattle.proto_names.specs.Groups.{with_party, without_party}
+use Rattle.proto_names.specs.Groups.{with_party}
 use Rattle.proto_names.specs.Instances.{after_share, after_void, fresh}
 use Rattle.proto_names.specs.declared.signature.Signature.TheVariants.{Rlk2}
 use Rattle.proto_names.specs.declared.instance.Instance.{Instance}
@@ -19,7 +19,7 @@ use Rattle.session_rules.specs.declared.moves.Move.{Move}
 use Rattle.session_rules.specs.declared.fixed.Fixed.{Fixed}
 use Rattle.session_rules.specs.States.{State, circuit, is_idle, is_refused, opening, none_given, opening_of}
 use Rattle.session_rules.specs.Issues.{next_move, instances_after, moved, least_present, issue}
-use Rattle.session_rules.specs.Deeds.{after_loss, with_input, with_circuit, changed, done}
+use Rattle.session_rules.specs.Deeds.{after_loss, changed, done}
 use Rattle.session_rules.specs.Steps.{judge, step}
 use Rattle.session_rules.specs.Histories.{after, state_after}
 use Rattle.session_rules.specs.Facts.{is_settled, CallsKeep, HistoriesKeep, CallsLeave, HistoriesLeave, IsSound, Decrypts, Kept, IsLater}
@@ -27,7 +27,7 @@ use Rattle.session_rules.specs.Allowed.{IsCounted, MayTurn, Allows}
 use Rattle.session_rules.proofs.Stepwise.{issue_keeps, done_keeps}
 use Rattle.session_rules.proofs.Judged.{judged}
 use Rattle.session_rules.proofs.Contained.{contains_nil}
-use Rattle.session_rules.proofs.Marks.{instance_within, instance_id}
+use Rattle.session_rules.proofs.Marks.{instance_within}
 use Rattle.session_rules.proofs.PartySets.{has_party, with_keeps, none_outside, least_is, least_within, least_count}
 use Rattle.session_rules.proofs.MoveKinds.{MoveIs, gives_up, second, other, move_is}
 use Rattle.session_rules.proofs.Needs.{needed_evaluated}

@@ -1,5 +1,5 @@
 -- Those that are present, where parties join; who may turn a circuit that is taken; and how many are issued.
-use Rattle.std.proofs.Common.{◌≡◌, ◌≢◌, ◌∙◌, sym, ap, subst, refl, ℕ, ◌+◌, ◌*◌, ◌<◌, ◌≤◌, ◌^◌, Bool, true, false, nat_eq, cond, inl, inr, List, [], ◌∷◌, length, set, arith}
+use Rattle.std.proofs.Common.{◌≡◌, ◌≢◌, ◌∙◌, sym, ap, subst, refl, ℕ, ◌+◌, ◌*◌, ◌<◌, ◌≤◌, ◌^◌, Bool, true, false, cond, inl, inr, List, [], ◌∷◌, length, arith}
 use Rattle.std.specs.Prelude.{if◌then◌else◌}
 use Rattle.std.proofs.lemmas.Bool.{cases_eq, both_ways}
 use Rattle.std.proofs.lemmas.List.{get_or-set_other, length-map}
@@ -21,12 +21,12 @@ use Rattle.session_rules.specs.Steps.{judge, step}
 use Rattle.session_rules.specs.Histories.{after}
 use Rattle.session_rules.specs.Facts.{JoinsParty, JoinParties, Kept, PartiesArePresent, TakenStays, FewAreIssued, HistoriesIssueFew}
 use Rattle.session_rules.specs.Allowed.{MayTurn, Allows}
-use Rattle.session_rules.proofs.Stepwise.{IsBeside, done_beside, issue_few}
+use Rattle.session_rules.proofs.Stepwise.{done_beside, issue_few}
 use Rattle.session_rules.proofs.Judged.{judged}
 use Rattle.session_rules.proofs.PartySets.{with_small, without_small}
 use Rattle.session_rules.proofs.Readiness.{found_ready, ready_idle}
 use Rattle.session_rules.proofs.Shares.{answered_other, decides_dec}
-use Rattle.session_rules.proofs.Keeps.{Waits, waits}
+use Rattle.session_rules.proofs.Keeps.{waits}
 
 -- ---- who is present
 

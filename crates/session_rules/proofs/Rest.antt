@@ -1,5 +1,5 @@
 -- After every call neither rule of issue applies.
-use Rattle.std.proofs.Common.{◌≡◌, ◌∙◌, sym, ap, ap₂, subst, refl, ℕ, ◌≤◌, Bool, true, false, not, nat_eq, ◌&&◌, cond, inl, inr, List, [], ◌∷◌, length, map, find, set, Contains, Option, Some, None, length-set}
+use Rattle.std.proofs.Common.{◌≡◌, ◌∙◌, sym, ap, ap₂, subst, refl, ℕ, ◌≤◌, Bool, true, false, nat_eq, ◌&&◌, cond, inl, inr, List, [], ◌∷◌, length, map, find, set, Contains, Option, Some, None, length-set}
 use Rattle.std.specs.Prelude.{if◌then◌else◌, nat_le}
 use Rattle.std.specs.List.{range_with_len, list_any}
 use Rattle.std.specs.Option.{option_map, option_or, option_and_then}
@@ -31,7 +31,7 @@ use Rattle.session_rules.proofs.Contained.{contains_here, contains_there}
 use Rattle.session_rules.proofs.Marks.{one_number, done_is}
 use Rattle.session_rules.proofs.Judged.{judged}
 use Rattle.session_rules.proofs.Later.{circuit_set}
-use Rattle.session_rules.proofs.Keeps.{Waits, waits, IsTurned, turned, deed_next, step_next, opening_kept}
+use Rattle.session_rules.proofs.Keeps.{Waits, waits, turned, deed_next, step_next, opening_kept}
 use Rattle.session_rules.proofs.Weights.{issue_ends}
 
 -- ---- searches by tests that agree

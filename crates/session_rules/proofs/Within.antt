@@ -1,13 +1,13 @@
 -- From a state on nobody joins or is lost, and no circuit is given back: what lives then was there before,
 -- or is of a signature that may be issued.
-use Rattle.std.proofs.Common.{◌≡◌, ◌≢◌, ◌∙◌, sym, ap, subst, refl, ℕ, ◌<◌, Bool, true, false, cond, ◌⊎◌, inl, inr, List, [], length, map, get_or, slice_index_or, Contains, Some, arith}
+use Rattle.std.proofs.Common.{◌≡◌, ◌≢◌, ◌∙◌, sym, ap, subst, refl, ℕ, ◌<◌, Bool, true, false, cond, ◌⊎◌, inl, inr, List, [], length, map, get_or, slice_index_or, Contains, arith}
 use Rattle.std.specs.Prelude.{if◌then◌else◌, nat_eq}
 use Rattle.std.specs.List.{range_with_len}
 use Rattle.std.proofs.lemmas.Bool.{both_ways, cases_lt, eqb-true, eqb-false}
 use Rattle.std.proofs.lemmas.List.Elements.{Contains-get_or}
 use Rattle.share_spec.specs.Sets.{has}
 use Rattle.proto_names.specs.Names.{is_void}
-use Rattle.proto_names.specs.Instances.{instance, missing, with_share, counted_at, after_share}
+use Rattle.proto_names.specs.Instances.{missing, with_share, counted_at, after_share}
 use Rattle.proto_names.specs.declared.signature.Signature.{Signature}
 use Rattle.proto_names.specs.declared.signature.Signature.TheVariants.{Pk, Rlk1, Rlk2}
 use Rattle.proto_names.specs.declared.sets.PartySet.{PartySet}
@@ -19,12 +19,12 @@ use Rattle.session_rules.specs.declared.state.CircuitState.TheVariants.{Evaluate
 use Rattle.session_rules.specs.declared.fixed.Fixed.{Fixed}
 use Rattle.session_rules.specs.States.{State, circuit, plan, is_given, has_live, has_done}
 use Rattle.session_rules.specs.Issues.{issue}
-use Rattle.session_rules.specs.Deeds.{is_last, answered_by, with_input, changed}
+use Rattle.session_rules.specs.Deeds.{is_last, answered_by, changed}
 use Rattle.session_rules.specs.Steps.{is_input}
 use Rattle.session_rules.specs.Facts.{is_settled, IsLive, IsSameLater, Kept, IsLater, IsAtRest}
 use Rattle.session_rules.proofs.Stepwise.{issue_beside}
 use Rattle.session_rules.proofs.Contained.{contains_map, contains_map_from}
-use Rattle.session_rules.proofs.Marks.{IsDone, instance_within, one_number, numbered_at, opened_lives}
+use Rattle.session_rules.proofs.Marks.{IsDone, one_number, numbered_at, opened_lives}
 use Rattle.session_rules.proofs.MoveKinds.{IsNeeded, key, decryption}
 use Rattle.session_rules.proofs.Later.{share_later, later_reflexive, later_transitive}
 use Rattle.session_rules.proofs.Shares.{decides_dec, answered_other, answered_its}

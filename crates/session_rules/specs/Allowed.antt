@@ -11,7 +11,6 @@ use Rattle.session_rules.specs.declared.reply.Reply.{Reply}
 use Rattle.session_rules.specs.declared.reply.Reply.TheVariants as reply
 use Rattle.session_rules.specs.declared.deed.Deed.{Deed}
 use Rattle.session_rules.specs.declared.deed.Deed.TheVariants.{Nothing, Joins, Loses, Counts, Gives, Turns}
-use Rattle.session_rules.specs.declared.deed.Verdict.{Verdict}
 use Rattle.session_rules.specs.declared.state.CircuitState.{CircuitState}
 use Rattle.session_rules.specs.declared.state.CircuitState.TheVariants.{Refused, Idle, Taken, Evaluated, Answered}
 use Rattle.session_rules.specs.declared.fixed.Fixed.{Fixed}

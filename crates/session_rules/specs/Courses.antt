@@ -1,5 +1,5 @@
 -- How a session is settled, and whose entries a history has: its course.
-use Rattle.std.specs.Prelude.{◌≡◌, ℕ, zero, suc, Bool, true, false, ◌||◌, ◌⊎◌, if◌then◌else◌, List, [], ◌∷◌, ◌++◌, map, Option, Some, None, All}
+use Rattle.std.specs.Prelude.{◌≡◌, ℕ, zero, suc, Bool, true, false, ◌||◌, ◌⊎◌, if◌then◌else◌, List, [], ◌∷◌, ◌++◌, map, Option, Some, None}
 use Rattle.std.specs.List.{list_all, flat_map}
 use Rattle.share_spec.specs.Sets.{members}
 use Rattle.session_rules.specs.declared.call.Call.{Call}
@@ -10,7 +10,7 @@ use Rattle.session_rules.specs.declared.state.CircuitState.{CircuitState}
 use Rattle.session_rules.specs.declared.fixed.Fixed.{Fixed}
 use Rattle.session_rules.specs.States.{State, is_answered, is_refused, opening}
 use Rattle.session_rules.specs.Histories.{after, state_after}
-use Rattle.session_rules.specs.Tasks.{Task, begin, does, exhausts, Held, Left, left, next_call, own, is_by, run}
+use Rattle.session_rules.specs.Tasks.{Task, begin, does, exhausts, Held, Left, left, next_call, own, run}
 
 -- ---- to follow tasks
 

@@ -19,7 +19,7 @@ use Rattle.session_rules.specs.declared.call.Entry.{Entry}
 use Rattle.session_rules.specs.declared.reply.Reply.{Reply}
 use Rattle.session_rules.specs.declared.reply.Reply.TheVariants as reply
 use Rattle.session_rules.specs.declared.reply.Reply.TheVariants.{Joined, Left, Counted, Completed, Given, Job, Finished, Returned}
-use Rattle.session_rules.specs.States.{State, plan, circuit, is_given, is_refused, is_evaluated, is_answered, has_done}
+use Rattle.session_rules.specs.States.{State, threshold_at, plan, circuit, is_given, is_refused, is_evaluated, is_answered, has_done}
 use Rattle.session_rules.specs.declared.deed.Deed.TheVariants.{Nothing, Counts}
 use Rattle.session_rules.specs.Issues.{next_move, instances_after, moves, most_moves, issue}
 use Rattle.session_rules.specs.Deeds.{done}
@@ -57,15 +57,15 @@ accepts _ = false
 abbrev pub IsLive : Instance → Type 0
 IsLive i = is_void i.stage ≡ false
 
--- an instance by itself: it has as many parties as the threshold; those that sent are among them; it
+-- an instance by itself: it has as many parties as the threshold of its group; those that sent are among them; it
 -- is complete where they all did; and those that an opened one waits for are present
 pub record IsSound (f : Fixed) (present : ℕ) (i : Instance) : Type 0 where
   pub set : i.set.bits < 2 ^ 32
-  pub parties : count i.set.bits ≡ f.threshold
+  pub parties : count i.set.bits ≡ threshold_at f i.group
   pub sent : i.sent.bits < 2 ^ 32
   pub senders : (p : ℕ) → has i.sent.bits p ≡ true → has i.set.bits p ≡ true
   pub complete : i.stage ≡ Complete → number_outside i.set.bits i.sent.bits ≡ 0
-  pub opened : 1 ≤ f.threshold → i.stage ≡ Opened → 1 ≤ number_outside i.set.bits i.sent.bits
+  pub opened : 1 ≤ threshold_at f i.group → i.stage ≡ Opened → 1 ≤ number_outside i.set.bits i.sent.bits
   pub awaited : i.stage ≡ Opened → (p : ℕ) → has i.set.bits p ≡ true → has i.sent.bits p ≡ false → has present p ≡ true
 
 -- the circuit of a decryption is evaluated, and answered once the decryption is complete
@@ -285,7 +285,7 @@ pub record HasAll (f : Fixed) (s : State) (id : ℕ) : Type 0 where
   pub item : Instance
   pub issued : instance s.instances id ≡ Some item
   pub sent : item.sent ≡ item.set
-  pub parties : count item.set.bits ≡ f.threshold
+  pub parties : count item.set.bits ≡ threshold_at f item.group
   pub answered : (c : ℕ) → item.signature ≡ Dec c → circuit s.circuits c ≡ Answered
 
 -- so it is from the entry on that completes it, whatever becomes of it later

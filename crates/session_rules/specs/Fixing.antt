@@ -25,6 +25,7 @@ rotates nodes g = has_rot g nodes
 unfoldable pub plan_of : Numbers → List Node → Plan
 plan_of p nodes =
     record {
+      nodes = nodes;
       owners = owners nodes;
       product = has_product nodes;
       turns = filter (rotates nodes) (range_with_len 0 (2 * p.n));
@@ -41,6 +42,7 @@ is_turned plans g = list_any (admits_turn g) plans
 unfoldable pub fixed_from : Numbers → List Plan → Fixed
 fixed_from p plans =
     record {
+      numbers = p;
       threshold = p.threshold;
       rows = digit_rows p.q p.digit_bits;
       plans = plans;

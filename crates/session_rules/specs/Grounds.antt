@@ -11,7 +11,7 @@ use Rattle.session_rules.specs.declared.call.Call.{Call}
 use Rattle.session_rules.specs.declared.call.Entry.{Entry}
 use Rattle.session_rules.specs.declared.fixed.Fixed.{Fixed}
 use Rattle.session_rules.specs.declared.state.CircuitState.TheVariants.{Taken}
-use Rattle.session_rules.specs.States.{State, plan, circuit, is_given, is_refused, is_admitted, has_done}
+use Rattle.session_rules.specs.States.{State, threshold_at, group_now, plan, circuit, is_given, is_refused, is_admitted, has_done}
 use Rattle.session_rules.specs.Issues.{keys as needed_keys}
 use Rattle.session_rules.specs.Steps.{is_input, is_given_input, has_keys, step}
 use Rattle.session_rules.specs.Fixing.{fixed_of}
@@ -50,7 +50,7 @@ GaveAll p b s = (i : Instance) → Contains s.instances i → i.id ≤ b → i.s
 -- no circuit is taken, and enough parties are present, among them the owner of each input that is wanted
 pub record CanSettle (f : Fixed) (s : State) : Type 0 where
   pub untaken : (c who : ℕ) → circuit s.circuits c ≢ Taken who
-  pub enough : f.threshold ≤ count s.present
+  pub enough : threshold_at f (group_now s) ≤ count s.present
   pub owners : (c k : ℕ) → is_input f c k ≡ true → (is_given s c k ≡ true) ⊎ (has s.present (slice_index_or (plan f c).owners k 0) ≡ true)
 
 -- ---- laws

@@ -14,7 +14,7 @@ use Rattle.session_rules.specs.declared.moves.Move.{Move}
 use Rattle.session_rules.specs.declared.moves.Move.TheVariants.{GiveUp, Issue}
 use Rattle.session_rules.specs.declared.fixed.Plan.{Plan}
 use Rattle.session_rules.specs.declared.fixed.Fixed.{Fixed}
-use Rattle.session_rules.specs.States.{State, is_admitted, is_evaluated, circuit, has_live, has_done}
+use Rattle.session_rules.specs.States.{State, threshold_at, group_now, is_admitted, is_evaluated, circuit, has_live, has_done}
 
 -- ---- what is needed
 
@@ -37,7 +37,7 @@ keys f =
 
 -- whether at least T parties are present
 unfoldable pub enough : Fixed → State → Bool
-enough f s = nat_le f.threshold (count s.present)
+enough f s = nat_le (threshold_at f (group_now s)) (count s.present)
 
 -- a second round wants a complete first one; all else wants T parties
 unfoldable pub condition : Fixed → State → Signature → Bool
@@ -74,7 +74,7 @@ abbrev pub second_round : Instance → Move
 second_round i = Issue Rlk2 i.set i.id
 
 unfoldable pub least_present : Fixed → State → PartySet
-least_present f s = record { bits = least_of f.threshold s.present }
+least_present f s = record { bits = least_of (threshold_at f (group_now s)) s.present }
 
 unfoldable pub issued_as : Fixed → State → Signature → Option Move
 issued_as f s σ =
@@ -88,7 +88,7 @@ rule_2 f s = option_and_then (issued_as f s) (next_signature f s)
 unfoldable pub next_move : Fixed → State → Option Move
 next_move f s = option_or (rule_1 s) (rule_2 f s)
 
--- ---- what a step does; all instances are issued for the one group, at place 0
+-- ---- what a step does; an instance is issued for the group that holds the secret now
 
 unfoldable pub instances_after : List Instance → Move → List Instance
 instances_after is (GiveUp id by) = after_void id by is

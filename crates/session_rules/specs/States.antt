@@ -21,6 +21,13 @@ pub record State : Type 0 where
 abbrev pub seen : ℕ → List Instance → List (List Bool) → List CircuitState → State
 seen present is given circuits = record { present = present; instances = is; given = given; circuits = circuits }
 
+-- T, how many parties of the group at a place act together: so far all instances are of the one group, at place 0
+abbrev pub threshold_at : Fixed → ℕ → ℕ
+threshold_at f group = f.threshold
+
+abbrev pub group_now : State → ℕ
+group_now s = 0
+
 -- ---- circuits
 
 abbrev pub is_refused : CircuitState → Bool
@@ -63,7 +70,7 @@ is_admitted plan = not (is_refused plan.opening)
 
 -- no circuit, which stands for one that isn't there
 abbrev pub no_plan : Plan
-no_plan = record { owners = []; product = false; turns = []; opening = Answered }
+no_plan = record { nodes = []; owners = []; product = false; turns = []; opening = Answered }
 
 -- circuit c, and how far it has come
 abbrev pub plan : Fixed → ℕ → Plan

@@ -1,10 +1,10 @@
 -- The nine calls: of each the reply, and what is done. Replies are tried in the order in which they
 -- stand; nothing is done where a call is refused.
-use Rattle.std.specs.Prelude.{ℕ, Bool, true, false, not, nat_eq, nat_lt, ◌&&◌, ◌||◌, cond, if◌then◌else◌, List, [], length, map, filter, slice_set, Option, Some, None}
-use Rattle.std.specs.List.{slice_index_or, range_with_len, find, list_any, list_all, flat_map}
+use Rattle.std.specs.Prelude.{ℕ, Bool, not, nat_eq, nat_lt, ◌&&◌, ◌||◌, cond, if◌then◌else◌, List, [], length, map, filter, Option, Some, None}
+use Rattle.std.specs.List.{slice_index_or, range_with_len, find, list_all, flat_map}
 use Rattle.share_spec.specs.Sets.{has}
-use Rattle.proto_names.specs.Names.{same, rows_of}
-use Rattle.proto_names.specs.Instances.{instance, lacks, missing, owed_shares}
+use Rattle.proto_names.specs.Names.{rows_of}
+use Rattle.proto_names.specs.Instances.{instance, missing, owed_shares}
 use Rattle.proto_names.specs.declared.signature.Signature.TheVariants.{Pk, Rlk2, Rot}
 use Rattle.proto_names.specs.declared.instance.Instance.{Instance}
 use Rattle.proto_names.specs.declared.instance.Stage.{Stage}

@@ -2,7 +2,6 @@
 -- call, and the reply says what of it is left. Only the entries of that caller are looked at, so others may
 -- call between them.
 use Rattle.std.specs.Prelude.{ℕ, zero, suc, Bool, true, false, nat_eq, ◌&&◌, if◌then◌else◌, List, [], ◌∷◌, ◌++◌, map, filter, Option, Some, None}
-use Rattle.std.specs.List.{flat_map}
 use Rattle.std.specs.Option.{option_map}
 use Rattle.proto_names.specs.Names.{rows_of}
 use Rattle.proto_names.specs.declared.signature.Signature.{Signature}

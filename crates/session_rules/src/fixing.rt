@@ -9,12 +9,13 @@ ghost use Rattle.session_rules.specs.Issues.{keys, wants_key, wants_relin};
 ghost use Rattle.session_rules.specs.Fixing.{begins_as, rotates, plan_of, admits_turn, is_turned, fixed_from};
 
 use crate::owed::is_admitted;
-use crate::{CircuitState, Fixed, Plan, PlanList};
+use crate::{CircuitState, Fixed, Plan, PlanList, SessionNumbers, SharedNodes};
 use circuit_form::Circuit;
 use noise_ledger::admit;
 use param_set::{Ids, Params};
 use proto_names::Signature;
 use std::alloc::{AllocError, Global};
+use std::sync::Arc;
 
 /// The owners of a circuit's inputs.
 #[tactic(auto, using(crate::proofs::Taken::item_by_item))]
@@ -47,32 +48,33 @@ fn turns_of(alloc: Global, params: &Params, circuit: &Circuit) -> Result<Ids, Al
 
 /// How a circuit begins: refused at its first place whose bound is above the limit, else idle.
 #[tactic(auto, unfolding(crate::specs::Fixing::begins_as))]
-fn opening_of(alloc: Global, params: &Params, circuit: &Circuit) -> Result<CircuitState, AllocError>
+fn opening_of(params: &Params, circuit: &Circuit) -> CircuitState
     requires { first_fault params.now.n params.now.t params.now.parties circuit.now ≡ None }
-    ensures { IfOk result (λ begun. begun ≡ begins_as (numbers_of params.now) circuit.now (first_over (numbers_of params.now) circuit.now)) }
+    ensures { result ≡ begins_as (numbers_of params.now) circuit.now (first_over (numbers_of params.now) circuit.now) }
 {
-    let mut bounds = vec![in alloc; 0u128; circuit.len() as usize]?;
-    Ok(match admit(params, circuit, bounds.as_mut_slice()) {
+    let mut bounds = [0u128; 256];
+    match admit(params, circuit, &mut bounds[..circuit.len() as usize]) {
         Ok(_) => CircuitState::Idle,
         Err(over) => CircuitState::Refused {
             place: over.place,
             bound: over.bound,
             limit: over.limit,
         },
-    })
+    }
 }
 
 /// A circuit, as far as the rules look at it.
 #[tactic(auto, unfolding(crate::specs::Fixing::plan_of))]
-pub fn plan_of(alloc: Global, params: &Params, circuit: &Circuit) -> Result<Plan, AllocError>
-    requires { first_fault params.now.n params.now.t params.now.parties circuit.now ≡ None }
-    ensures { IfOk result (λ plan. plan ≡ plan_of (numbers_of params.now) circuit.now) }
+pub fn plan_of(alloc: Global, params: &Params, circuit: &Arc<Circuit>) -> Result<Plan, AllocError>
+    requires { first_fault params.now.n params.now.t params.now.parties circuit.now.value ≡ None }
+    ensures { IfOk result (λ plan. plan ≡ plan_of (numbers_of params.now) circuit.now.value) }
 {
     Ok(Plan {
+        nodes: SharedNodes::of(circuit)?,
         owners: owners_of(alloc, circuit)?,
         product: circuit.has_product(),
         turns: turns_of(alloc, params, circuit)?,
-        opening: opening_of(alloc, params, circuit)?,
+        opening: opening_of(params, circuit),
     })
 }
 
@@ -112,6 +114,7 @@ impl Fixed {
     {
         let turns = admitted_turns(alloc, 2 * params.n() as u32, plans.as_slice())?;
         Ok(Fixed {
+            numbers: SessionNumbers::of(params),
             threshold: params.threshold() as u32,
             rows: params.rows() as u32,
             plans,

@@ -26,7 +26,7 @@ mod verdicts;
 
 pub use call::{Call, Entry};
 pub use deed::{Deed, Verdict};
-pub use fixed::{Fixed, Plan, PlanList};
+pub use fixed::{Fixed, Plan, PlanList, SessionNumbers, SharedNodes};
 pub use fixing::plan_of;
 pub use given::Given;
 pub use issue::{has_done, has_live};

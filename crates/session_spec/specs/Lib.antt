@@ -3,4 +3,3 @@ pub mod Shares
 pub mod Outputs
 pub mod Stores
 pub mod Honesty
-pub mod Laws

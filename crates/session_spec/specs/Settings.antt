@@ -1,5 +1,5 @@
 -- What a session is about, and no call changes.
-use Rattle.std.specs.Prelude.{◌≡◌, ℕ, ◌-◌, true, List, [], map, length, slice_index_or, unwrap_or, All, Option, Some, None}
+use Rattle.std.specs.Prelude.{◌≡◌, ℕ, true, List, [], map, length, slice_index_or, unwrap_or, All, Option, Some, None}
 use Rattle.ring_spec.specs.Ring.{IsPoly}
 use Rattle.param_set.specs.declared.params.Params.{Params}
 use Rattle.param_set.specs.Moduli.{digit_rows}
@@ -7,6 +7,8 @@ use Rattle.circuit_form.specs.declared.node.Node.{Node}
 use Rattle.circuit_form.specs.Circuits.{first_fault, owners}
 use Rattle.circuit_form.specs.Values.{plain_value}
 use Rattle.param_set.specs.Numbers.{Numbers, numbers_of}
+use Rattle.gadget_spec.specs.Digits.{Gadget}
+use Rattle.cipher_spec.specs.Keys.{gadget_of}
 use Rattle.cipher_spec.specs.Ciphers.{is_switch_free}
 use Rattle.session_rules.specs.declared.fixed.Fixed.{Fixed}
 use Rattle.session_rules.specs.Fixing.{fixed_of}
@@ -28,6 +30,9 @@ pub record Setting : Type 0 where
 -- l, the rows of the gadget
 abbrev pub gadget_rows : Setting → ℕ
 gadget_rows w = digit_rows w.numbers.q w.numbers.digit_bits
+
+abbrev pub gadget : Setting → Gadget
+gadget w = gadget_of w.numbers
 
 -- what the rules of a session look at
 unfoldable pub rules : Setting → Fixed
@@ -58,17 +63,11 @@ input_count w c = length (owners (nodes_at w c))
 unfoldable pub plain_at : Setting → ℕ → List ℕ
 plain_at w c = plain_value w.numbers.n w.numbers.t (values_at w c) (nodes_at w c)
 
--- ---- the parties' seeds, in order
-
-abbrev pub seed_at : List (List ℕ) → ℕ → List ℕ
-seed_at seeds p = slice_index_or seeds (p - 1) []
-
 -- ---- what a setting has to keep
 
--- a circuit keeps its rules, and needs no key switch
+-- a circuit keeps its rules
 pub record Keeps (p : Params) (offer : Offer) : Type 0 where
   pub rules : first_fault p.n p.t p.parties offer.nodes ≡ None
-  pub switch_free : is_switch_free offer.nodes ≡ true
 
 -- its values are told: one plaintext for each input
 pub record Tells (p : Params) (offer : Offer) : Type 0 where
@@ -84,3 +83,10 @@ pub record IsSetting (p : Params) (w : Setting) : Type 0 where
 
 abbrev pub HasValues : Params → Setting → Type 0
 HasValues p w = All (Tells p) w.offers
+
+-- no circuit has a rotation or a product of two ciphertexts: then no other key is needed than the public key
+abbrev pub IsSwitchFree : Offer → Type 0
+IsSwitchFree offer = is_switch_free offer.nodes ≡ true
+
+abbrev pub NeedsNoSwitch : Setting → Type 0
+NeedsNoSwitch w = All IsSwitchFree w.offers

@@ -5,6 +5,10 @@ use Rattle.ring_spec.specs.Ring.{ring_sum}
 use Rattle.ring_spec.specs.Pairs.{Cipher, Key}
 use Rattle.bfv_spec.specs.Scheme.{decryption}
 use Rattle.bfv_spec.specs.Shares.{pk_from}
+use Rattle.gadget_spec.specs.Switching.{KeyRow}
+use Rattle.key_spec.specs.Rotations.{rotation_key}
+use Rattle.key_spec.specs.Relinearisation.{relin_key}
+use Rattle.cipher_spec.specs.Keys.{Keys, RotationKey, no_key}
 use Rattle.cipher_spec.specs.Ciphers.{no_cipher}
 use Rattle.proto_names.specs.Names.{rows_of}
 use Rattle.proto_names.specs.declared.signature.Signature.{Signature}
@@ -16,8 +20,9 @@ use Rattle.session_rules.specs.declared.deed.Deed.TheVariants.{Nothing, Joins, L
 use Rattle.session_rules.specs.declared.state.CircuitState.{CircuitState}
 use Rattle.session_rules.specs.declared.state.CircuitState.TheVariants.{Refused, Idle, Taken, Evaluated, Answered}
 use Rattle.session_rules.specs.Deeds.{is_last, leads_on}
-use Rattle.session_spec.specs.Settings.{Setting, Offer, nodes_of, gadget_rows}
-use Rattle.session_spec.specs.Outputs.{key_instance}
+use Rattle.session_rules.specs.States.{plan}
+use Rattle.session_spec.specs.Settings.{Setting, Offer, rules, gadget, gadget_rows}
+use Rattle.session_spec.specs.Outputs.{done_instance, key_instance}
 use Rattle.circuit_form.specs.Circuits.{owners}
 
 -- of each instance the polynomials that its parties are told, and the sums of the shares that were counted; of
@@ -58,6 +63,39 @@ key_by w h i = pk_from w.numbers.q w.numbers.n w.public i.id (slice_index_or (he
 unfoldable pub held_key : Setting → Store → List Instance → Option Key
 held_key w h is = option_map (key_by w h) (key_instance is)
 
+-- the rows of the relinearisation key that the sums of a second round and of its first make, and those of the rotation
+-- key of an instance
+abbrev pub relin_by : Setting → Store → Instance → List KeyRow
+relin_by w h i = relin_key w.numbers.q w.numbers.n (gadget w) (held_sums h i.round1) (held_sums h i.id)
+
+abbrev pub rotation_by : Setting → Store → Instance → List KeyRow
+rotation_by w h i = rotation_key w.numbers.q w.numbers.n (gadget w) w.public i.id (held_sums h i.id)
+
+-- the same where there may be none
+abbrev pub key_or : Setting → Store → Option Instance → Key
+key_or w h None = no_key
+key_or w h (Some i) = key_by w h i
+
+abbrev pub relin_or : Setting → Store → Option Instance → List KeyRow
+relin_or w h None = []
+relin_or w h (Some i) = relin_by w h i
+
+abbrev pub rotation_or : Setting → Store → Option Instance → List KeyRow
+rotation_or w h None = []
+rotation_or w h (Some i) = rotation_by w h i
+
+abbrev pub held_rotation : Setting → Store → List Instance → ℕ → RotationKey
+held_rotation w h is g = record { g = g; rows = rotation_or w h (done_instance (Rot g) is) }
+
+-- the keys of circuit c, from the sums of the shares that were counted: the public key, and those that it needs of
+-- the others
+unfoldable pub held_keys : Setting → Store → List Instance → ℕ → Keys
+held_keys w h is c = record {
+  public = key_or w h (key_instance is);
+  relin = cond (plan (rules w) c).product (relin_or w h (done_instance Rlk2 is)) [];
+  rotations = map (held_rotation w h is) (plan (rules w) c).turns;
+}
+
 -- ---- at first
 
 abbrev pub no_inputs : Offer → List (Option Cipher)
@@ -74,16 +112,17 @@ empty w = record {
 
 -- ---- instances that are issued: nothing is added to their sums
 
--- what the parties of one are told: for a decryption the second part of the circuit's output
-unfoldable pub polys_by : Store → Signature → List (List ℕ)
-polys_by h Pk = []
-polys_by h Rlk1 = []
-polys_by h Rlk2 = []
-polys_by h (Rot g) = []
-polys_by h (Dec c) = (cipher_or (held_output h c)).c1 ∷ []
+-- what the parties of one with a signature and a first round are told: for a second round the sums of its first, for
+-- a decryption the second part of the circuit's output
+unfoldable pub polys_by : Store → Signature → ℕ → List (List ℕ)
+polys_by h Pk first = []
+polys_by h Rlk1 first = []
+polys_by h Rlk2 first = held_sums h first
+polys_by h (Rot g) first = []
+polys_by h (Dec c) first = (cipher_or (held_output h c)).c1 ∷ []
 
 abbrev pub polys_told : Store → Instance → List (List ℕ)
-polys_told h i = polys_by h i.signature
+polys_told h i = polys_by h i.signature i.round1
 
 abbrev pub zero_sums : Setting → Instance → List (List ℕ)
 zero_sums w i = replicate (rows_of i.signature (gadget_rows w)) (replicate w.numbers.n 0)
