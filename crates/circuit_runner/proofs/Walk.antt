@@ -7,6 +7,8 @@ use Rattle.circuit_form.specs.declared.node.Node.{Node}
 use Rattle.circuit_form.specs.Circuits.{owners}
 use Rattle.circuit_form.specs.Values.{given_after}
 use Rattle.circuit_form.proofs.Steps.{enough_past}
+use Rattle.param_set.specs.Numbers.{Numbers}
+use Rattle.cipher_spec.specs.Keys.{Keys}
 use Rattle.cipher_spec.specs.Ciphers.{node_cipher, ciphers_from}
 
 -- the nodes from a place on are the node there and the rest
@@ -20,7 +22,7 @@ enough_next given k all nodes node at s =
     enough_past given k all nodes node (slice_get_within nodes k node at) (sym (get_or_from_slice_get nodes k node node at)) s
 
 -- the ciphertexts of all nodes, with that of the node at a place behind those done
-pub ciphers_past : (q n t : ℕ) (inputs : List Cipher) (nodes : List Node) (done : List Cipher) (given k : ℕ) (node : Node) → slice_get nodes k ≡ Some node → ciphers_from q n t inputs nodes (done ++ node_cipher q n t inputs nodes done given node ∷ []) (given_after given node) (drop (k + 1) nodes) ≡ ciphers_from q n t inputs nodes done given (drop k nodes)
+pub ciphers_past : (p : Numbers) (keys : Keys) (inputs : List Cipher) (nodes : List Node) (done : List Cipher) (given k : ℕ) (node : Node) → slice_get nodes k ≡ Some node → ciphers_from p keys inputs nodes (done ++ node_cipher p keys inputs nodes done given node ∷ []) (given_after given node) (drop (k + 1) nodes) ≡ ciphers_from p keys inputs nodes done given (drop k nodes)
 unfolding ciphers_from
-ciphers_past q n t inputs nodes done given k node at =
-    ap (ciphers_from q n t inputs nodes done given) (sym (item_first nodes k node at))
+ciphers_past p keys inputs nodes done given k node at =
+    ap (ciphers_from p keys inputs nodes done given) (sym (item_first nodes k node at))

@@ -1,6 +1,8 @@
 ghost use Rattle.std.specs.Prelude.{◌≡◌, true, length, All, IfOk, None};
 ghost use Rattle.ring_spec.specs.Pairs.{CipherFits};
 ghost use Rattle.circuit_form.specs.Circuits.{first_fault, owners};
+ghost use Rattle.param_set.specs.Numbers.{numbers_of};
+ghost use Rattle.cipher_spec.specs.Keys.{no_keys};
 ghost use Rattle.cipher_spec.specs.Ciphers.{is_switch_free, output_cipher};
 
 use crate::inputs::Inputs;
@@ -29,7 +31,7 @@ pub fn evaluate(alloc: Global, ring: &Ring, job: &Job) -> Result<Ciphertext, All
     requires switch_free { is_switch_free job.now.circuit.value ≡ true }
     requires count { length job.now.inputs ≡ length (owners job.now.circuit.value) }
     requires inputs { All (CipherFits ring.now.params.q ring.now.params.n) job.now.inputs }
-    ensures value { IfOk result (λ c. c ≡ output_cipher ring.now.params.q ring.now.params.n ring.now.params.t job.now.inputs job.now.circuit.value) }
+    ensures value { IfOk result (λ c. c ≡ output_cipher (numbers_of ring.now.params) no_keys job.now.inputs job.now.circuit.value) }
     ensures fits { IfOk result (λ c. CipherFits ring.now.params.q ring.now.params.n c) }
 {
     let mut done = node_ciphers(alloc, ring, &job.circuit, &job.inputs)?;

@@ -1,6 +1,8 @@
 ghost use Rattle.std.specs.Prelude.{◌≡◌, true, [], length, All, IfOk, None};
 ghost use Rattle.ring_spec.specs.Pairs.{CipherFits};
 ghost use Rattle.circuit_form.specs.Circuits.{first_fault, owners};
+ghost use Rattle.param_set.specs.Numbers.{numbers_of};
+ghost use Rattle.cipher_spec.specs.Keys.{no_keys};
 ghost use Rattle.cipher_spec.specs.Ciphers.{is_switch_free, ciphers_from};
 
 use crate::inputs::Inputs;
@@ -21,7 +23,7 @@ pub(crate) fn node_ciphers(
     requires switch_free { is_switch_free circuit.now ≡ true }
     requires enough { length inputs.now ≡ length (owners circuit.now) }
     requires inputs { All (CipherFits ring.now.params.q ring.now.params.n) inputs.now }
-    ensures values { IfOk result (λ v. v.items ≡ ciphers_from ring.now.params.q ring.now.params.n ring.now.params.t inputs.now circuit.now [] 0 circuit.now) }
+    ensures values { IfOk result (λ v. v.items ≡ ciphers_from (numbers_of ring.now.params) no_keys inputs.now circuit.now [] 0 circuit.now) }
     ensures count { IfOk result (λ v. length v.items ≡ length circuit.now) }
     ensures fit { IfOk result (λ v. All (CipherFits ring.now.params.q ring.now.params.n) v.items) }
 {

@@ -3,6 +3,8 @@ ghost use Rattle.std.specs.List.{slice_get};
 ghost use Rattle.ring_spec.specs.Pairs.{CipherFits};
 ghost use Rattle.circuit_form.specs.Circuits.{may_stand, first_fault, is_const, is_full};
 ghost use Rattle.circuit_form.specs.Values.{given_after};
+ghost use Rattle.param_set.specs.Numbers.{numbers_of};
+ghost use Rattle.cipher_spec.specs.Keys.{no_keys};
 ghost use Rattle.cipher_spec.specs.Ciphers.{is_rotation, const_at, product_cipher, node_cipher};
 
 use crate::inputs::Inputs;
@@ -49,7 +51,7 @@ fn product(
     requires left { left < length done.now }
     requires right { right < length done.now }
     requires done { All (CipherFits ring.now.params.q ring.now.params.n) done.now }
-    ensures value { IfOk result (λ c. c ≡ product_cipher ring.now.params.q ring.now.params.n circuit.now done.now left right) }
+    ensures value { IfOk result (λ c. c ≡ product_cipher (numbers_of ring.now.params) no_keys circuit.now done.now left right) }
     ensures fits { IfOk result (λ c. CipherFits ring.now.params.q ring.now.params.n c) }
 {
     if let Some(value) = const_at(circuit, right) {
@@ -79,7 +81,7 @@ pub(crate) fn node_cipher(
     requires inputs { All (CipherFits ring.now.params.q ring.now.params.n) inputs.now }
     requires done { All (CipherFits ring.now.params.q ring.now.params.n) done.now }
     requires enough { given_after given node.now ≤ length inputs.now }
-    ensures value { IfOk result (λ c. c ≡ node_cipher ring.now.params.q ring.now.params.n ring.now.params.t inputs.now circuit.now done.now given node.now) }
+    ensures value { IfOk result (λ c. c ≡ node_cipher (numbers_of ring.now.params) no_keys inputs.now circuit.now done.now given node.now) }
     ensures fits { IfOk result (λ c. CipherFits ring.now.params.q ring.now.params.n c) }
 {
     match node {

@@ -2,6 +2,8 @@
 use Rattle.std.proofs.Common.{length, sym, arith, ◌∙◌}
 use Rattle.std.proofs.lemmas.Grind.{common_steps}
 use Rattle.circuit_form.proofs.Standing.{each_stands, is_circuit}
+use Rattle.param_set.specs.Numbers.{numbers_of}
+use Rattle.cipher_spec.specs.Keys.{no_keys}
 use Rattle.cipher_spec.specs.Ciphers.{ciphers_from}
 use Rattle.circuit_runner.proofs.SwitchFree.{not_full, no_rotation}
 use Rattle.circuit_runner.proofs.Walk.{enough_next, ciphers_past}
@@ -43,7 +45,7 @@ nodes-preserved c =
       passed = omega (arith, c.given_after-given.ensures.one_more, c.nodes.invariant.passed);
       enough = rw c.given_after-given.ensures.value (enough_next c.nodes.given k (length c.args.inputs.now) nodes node at c.nodes.invariant.enough);
       fit = grind (arith, common_steps);
-      whole = rw (c.in_ok-push-in-Some.ensures.items, c.in_ok-cipher-in-Some.ensures.value, c.as_slice.ensures.value, c.given_after-given.ensures.value) (ciphers_past p.q p.n p.t c.args.inputs.now nodes c.nodes.done.items c.nodes.given k node at ∙ c.nodes.invariant.whole);
+      whole = rw (c.in_ok-push-in-Some.ensures.items, c.in_ok-cipher-in-Some.ensures.value, c.as_slice.ensures.value, c.given_after-given.ensures.value) (ciphers_past (numbers_of p) no_keys c.args.inputs.now nodes c.nodes.done.items c.nodes.given k node at ∙ c.nodes.invariant.whole);
     }
 
 pub returns-clause-values : goal.returns-clause-values

@@ -4,6 +4,8 @@ use Rattle.std.proofs.Common.{◌≡◌, ◌+◌, ◌≤◌, [], length, drop}
 use Rattle.std.specs.Prelude.{All}
 use Rattle.ring_spec.specs.Pairs.{CipherFits}
 use Rattle.circuit_form.specs.Circuits.{owners}
+use Rattle.param_set.specs.Numbers.{numbers_of}
+use Rattle.cipher_spec.specs.Keys.{no_keys}
 use Rattle.cipher_spec.specs.Ciphers.{ciphers_from}
 use Rattle.circuit_runner.proofs.nodes.node_ciphers.Given as goal
 
@@ -13,5 +15,5 @@ invariant-nodes l = record {
   passed : l.given ≤ l.k;
   enough : l.given + length (owners (drop l.k l.circuit)) ≡ length l.inputs;
   fit : All (CipherFits l.ring.params.q l.ring.params.n) l.done.items;
-  whole : ciphers_from l.ring.params.q l.ring.params.n l.ring.params.t l.inputs l.circuit l.done.items l.given (drop l.k l.circuit) ≡ ciphers_from l.ring.params.q l.ring.params.n l.ring.params.t l.inputs l.circuit [] 0 l.circuit;
+  whole : ciphers_from (numbers_of l.ring.params) no_keys l.inputs l.circuit l.done.items l.given (drop l.k l.circuit) ≡ ciphers_from (numbers_of l.ring.params) no_keys l.inputs l.circuit [] 0 l.circuit;
 }
