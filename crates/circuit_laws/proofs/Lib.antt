@@ -4,3 +4,4 @@ pub mod Nodes
 pub mod Walks
 pub mod Outputs
 pub mod Within
+pub mod SwitchFree

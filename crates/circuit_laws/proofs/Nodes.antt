@@ -18,8 +18,9 @@ use Rattle.circuit_form.specs.declared.node.Node.TheVariants.{Input, Const, Add,
 use Rattle.circuit_form.specs.Circuits.{fits, may_stand, is_const, is_full, owners}
 use Rattle.circuit_form.specs.Values.{entry, node_value, given_after}
 use Rattle.param_set.specs.Numbers.{numbers_of}
-use Rattle.noise_ledger.specs.Bounds.{sum_bound, neg_bound, plain_mul_bound}
+use Rattle.noise_ledger.specs.Bounds.{numbers_for, sum_bound, neg_bound, plain_mul_bound}
 use Rattle.noise_ledger.specs.Ledger.{bound_at, product_bound, node_bound}
+use Rattle.cipher_spec.specs.Keys.{Keys}
 use Rattle.cipher_spec.specs.Ciphers.{is_rotation, no_cipher, cipher_at, const_of, const_at, product_cipher, node_cipher}
 use Rattle.circuit_laws.specs.Carrying.{AreInputs}
 use Rattle.circuit_laws.proofs.Multiples.{difference_carries, negative_carries, multiple_carries, trivial_carries}
@@ -38,7 +39,7 @@ both_pass true b e = (refl, e)
 both_pass false b e = (cc, cc)
 
 -- of two operands that don't make a full product, one is a constant
-one_fails : (a b : Bool) → (not a && not b) ≡ false → (b ≡ true) ⊎ ((b ≡ false) × (a ≡ true))
+pub one_fails : (a b : Bool) → (not a && not b) ≡ false → (b ≡ true) ⊎ ((b ≡ false) × (a ≡ true))
 one_fails a true e = inl refl
 one_fails true false e = inr (refl, refl)
 one_fails false false e = cc
@@ -80,24 +81,24 @@ zero_poly q n h = record {
 }
 
 -- a product of an operand's ciphertext with a plaintext
-times_holds : (p : Params) (s : List ℕ) (nodes : List Node) (k left right v : ℕ) (c : Cipher) (a b : List ℕ) →
+times_holds : (p : Params) (threshold : ℕ) (s : List ℕ) (nodes : List Node) (k left right v : ℕ) (c : Cipher) (a b : List ℕ) →
     0 < p.q → 0 < p.t → slice_get nodes k ≡ Some (Mul left right) → Carries p.q p.n p.t s v c a → IsPoly p.t p.n a → IsPoly p.t p.n b →
-    Holds p s nodes k (plain_mul_bound (numbers_of p) v) (cipher_multiple p.q p.n c b) (ring_product p.t p.n a b)
+    Holds p s nodes k (plain_mul_bound (numbers_for p threshold) v) (cipher_multiple p.q p.n c b) (ring_product p.t p.n a b)
 unfolding plain_mul_bound cipher_multiple
-times_holds p s nodes k left right v c a b h ht at carried pa pb = record {
+times_holds p threshold s nodes k left right v c a b h ht at carried pa pb = record {
   carries = multiple_carries p.q p.n p.t v c a b s h ht pa pb carried;
   plain = product_poly p.t p.n a b ht;
   fits = record { c0 = product_poly p.q p.n c.c0 b h; c1 = product_poly p.q p.n c.c1 b h };
   named = λ value e. cc;
 }
 
-product_holds : (p : Params) (s : List ℕ) (nodes : List Node) (k left right : ℕ) (bounds : List ℕ) (ciphers : List Cipher) (plains : List (List ℕ)) →
+product_holds : (p : Params) (threshold : ℕ) (keys : Keys) (s : List ℕ) (nodes : List Node) (k left right : ℕ) (bounds : List ℕ) (ciphers : List Cipher) (plains : List (List ℕ)) →
     0 < p.q → 0 < p.t → Each p s nodes k bounds ciphers plains → left < k → right < k →
     (not (is_const (slice_get nodes left)) && not (is_const (slice_get nodes right))) ≡ false → slice_get nodes k ≡ Some (Mul left right) →
-    Holds p s nodes k (product_bound (numbers_of p) nodes bounds left right) (product_cipher p.q p.n nodes ciphers left right)
+    Holds p s nodes k (product_bound (numbers_for p threshold) nodes bounds left right) (product_cipher (numbers_of p) keys nodes ciphers left right)
     (ring_product p.t p.n (entry plains left) (entry plains right))
 unfolding product_bound product_cipher
-product_holds p s nodes k left right bounds ciphers plains h ht each l r full at =
+product_holds p threshold keys s nodes k left right bounds ciphers plains h ht each l r full at =
     let one = each left l in let two = each right r in
     let a = entry plains left in let b = entry plains right in
     let v = bound_at bounds left in let w = bound_at bounds right in
@@ -105,36 +106,36 @@ product_holds p s nodes k left right bounds ciphers plains h ht each l r full at
     elim (one_fails (is_const (slice_get nodes left)) (is_const (slice_get nodes right)) full) [
       | inl e ↦
           let is : b ≡ const_at nodes right = two.named (const_at nodes right) (const_is (slice_get nodes right) e) in
-          let all = times_holds p s nodes k left right v c a b h ht at one.carries one.plain two.plain in
-          rw e (subst (λ (m : List ℕ). Holds p s nodes k (plain_mul_bound (numbers_of p) v) (cipher_multiple p.q p.n c m) (ring_product p.t p.n a b)) is all)
+          let all = times_holds p threshold s nodes k left right v c a b h ht at one.carries one.plain two.plain in
+          rw e (subst (λ (m : List ℕ). Holds p s nodes k (plain_mul_bound (numbers_for p threshold) v) (cipher_multiple p.q p.n c m) (ring_product p.t p.n a b)) is all)
       | inr e ↦
           let is : a ≡ const_at nodes left = one.named (const_at nodes left) (const_is (slice_get nodes left) e.1) in
-          let all = times_holds p s nodes k left right w d b a h ht at two.carries two.plain one.plain in
+          let all = times_holds p threshold s nodes k left right w d b a h ht at two.carries two.plain one.plain in
           rw (e.0, e.1, ring_product_commutes p.t p.n a b)
-          (subst (λ (m : List ℕ). Holds p s nodes k (plain_mul_bound (numbers_of p) w) (cipher_multiple p.q p.n d m) (ring_product p.t p.n b a)) is all)
+          (subst (λ (m : List ℕ). Holds p s nodes k (plain_mul_bound (numbers_for p threshold) w) (cipher_multiple p.q p.n d m) (ring_product p.t p.n b a)) is all)
     ]
 
 -- the next place, whatever node stands there, where it is neither a rotation nor a full product
-pub node_holds : (p : Params) (s : List ℕ) (nodes : List Node) (values : List (List ℕ)) (inputs : List Cipher) (k given : ℕ)
+pub node_holds : (p : Params) (threshold : ℕ) (keys : Keys) (s : List ℕ) (nodes : List Node) (values : List (List ℕ)) (inputs : List Cipher) (k given : ℕ)
     (bounds : List ℕ) (ciphers : List Cipher) (plains : List (List ℕ)) (node : Node) →
-    0 < p.q → 0 < p.t → AreInputs p s nodes values inputs → Each p s nodes k bounds ciphers plains →
+    0 < p.q → 0 < p.t → AreInputs p threshold s nodes values inputs → Each p s nodes k bounds ciphers plains →
     slice_get nodes k ≡ Some node → may_stand p.n p.t p.parties k node ≡ true → is_rotation node ≡ false → is_full nodes node ≡ false →
     given_after given node ≤ length (owners nodes) →
-    Holds p s nodes k (node_bound (numbers_of p) nodes bounds node) (node_cipher p.q p.n p.t inputs nodes ciphers given node) (node_value p.n p.t values plains given node)
+    Holds p s nodes k (node_bound (numbers_for p threshold) nodes bounds node) (node_cipher (numbers_of p) keys inputs nodes ciphers given node) (node_value p.n p.t values plains given node)
 unfolding may_stand node_bound node_cipher node_value given_after sum_bound neg_bound cipher_sum cipher_difference cipher_negative trivial
-node_holds p s nodes values inputs k given bounds ciphers plains (Input owner) h ht ready each at stands turn full few = record {
+node_holds p threshold keys s nodes values inputs k given bounds ciphers plains (Input owner) h ht ready each at stands turn full few = record {
   carries = ready.carry given (omega arith);
   plain = All-get_or (IsPoly p.t p.n) values given [] (omega (arith, ready.polys)) ready.plain;
   fits = All-get_or (CipherFits p.q p.n) inputs given no_cipher (omega (arith, ready.ciphers)) ready.fit;
   named = λ v e. cc;
 }
-node_holds p s nodes values inputs k given bounds ciphers plains (Const value) h ht ready each at stands turn full few = record {
+node_holds p threshold keys s nodes values inputs k given bounds ciphers plains (Const value) h ht ready each at stands turn full few = record {
   carries = trivial_carries p.q p.n p.t value s h;
   plain = const_plain p.n p.t value stands;
   fits = record { c0 = multiple_poly p.q p.n (delta p.q p.t) value h; c1 = zero_poly p.q p.n h };
   named = λ v e. cc;
 }
-node_holds p s nodes values inputs k given bounds ciphers plains (Add left right) h ht ready each at stands turn full few =
+node_holds p threshold keys s nodes values inputs k given bounds ciphers plains (Add left right) h ht ready each at stands turn full few =
     let both = both_pass (ltb left k) (ltb right k) stands in
     let one = each left (ltb-true left k both.0) in let two = each right (ltb-true right k both.1) in
     let c = cipher_at ciphers left in let d = cipher_at ciphers right in
@@ -144,7 +145,7 @@ node_holds p s nodes values inputs k given bounds ciphers plains (Add left right
       fits = record { c0 = sum_poly p.q p.n c.c0 d.c0 h; c1 = sum_poly p.q p.n c.c1 d.c1 h };
       named = λ v e. cc;
     }
-node_holds p s nodes values inputs k given bounds ciphers plains (Sub left right) h ht ready each at stands turn full few =
+node_holds p threshold keys s nodes values inputs k given bounds ciphers plains (Sub left right) h ht ready each at stands turn full few =
     let both = both_pass (ltb left k) (ltb right k) stands in
     let one = each left (ltb-true left k both.0) in let two = each right (ltb-true right k both.1) in
     let c = cipher_at ciphers left in let d = cipher_at ciphers right in
@@ -154,7 +155,7 @@ node_holds p s nodes values inputs k given bounds ciphers plains (Sub left right
       fits = record { c0 = difference_poly p.q p.n c.c0 d.c0 h; c1 = difference_poly p.q p.n c.c1 d.c1 h };
       named = λ v e. cc;
     }
-node_holds p s nodes values inputs k given bounds ciphers plains (Neg of) h ht ready each at stands turn full few =
+node_holds p threshold keys s nodes values inputs k given bounds ciphers plains (Neg of) h ht ready each at stands turn full few =
     let one = each of (ltb-true of k stands) in
     let c = cipher_at ciphers of in
     record {
@@ -163,7 +164,7 @@ node_holds p s nodes values inputs k given bounds ciphers plains (Neg of) h ht r
       fits = record { c0 = negative_poly p.q p.n c.c0 h; c1 = negative_poly p.q p.n c.c1 h };
       named = λ v e. cc;
     }
-node_holds p s nodes values inputs k given bounds ciphers plains (Mul left right) h ht ready each at stands turn full few =
+node_holds p threshold keys s nodes values inputs k given bounds ciphers plains (Mul left right) h ht ready each at stands turn full few =
     let both = both_pass (ltb left k) (ltb right k) stands in
-    product_holds p s nodes k left right bounds ciphers plains h ht each (ltb-true left k both.0) (ltb-true right k both.1) full at
-node_holds p s nodes values inputs k given bounds ciphers plains (Rot g of) h ht ready each at stands turn full few = cc
+    product_holds p threshold keys s nodes k left right bounds ciphers plains h ht each (ltb-true left k both.0) (ltb-true right k both.1) full at
+node_holds p threshold keys s nodes values inputs k given bounds ciphers plains (Rot g of) h ht ready each at stands turn full few = cc

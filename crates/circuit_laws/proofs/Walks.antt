@@ -15,6 +15,8 @@ use Rattle.circuit_form.specs.Values.{entry, node_value, given_after, values_fro
 use Rattle.circuit_form.proofs.Standing.{each_stands}
 use Rattle.param_set.specs.Numbers.{numbers_of}
 use Rattle.noise_ledger.specs.Ledger.{bound_at, node_bound, bounds_from}
+use Rattle.noise_ledger.specs.Bounds.{numbers_for}
+use Rattle.cipher_spec.specs.Keys.{Keys}
 use Rattle.cipher_spec.specs.Ciphers.{is_rotation, is_switch_free, no_cipher, cipher_at, node_cipher, ciphers_from}
 use Rattle.circuit_laws.specs.Carrying.{AreInputs}
 use Rattle.circuit_laws.proofs.Nodes.{Holds, both_pass, node_holds}
@@ -78,15 +80,15 @@ passes_none test nodes k node none at = settled (test node) (λ passed.
     settled false never = refl
 
 -- where the places of some nodes are done, so are all at the end
-pub walks : (p : Params) (s : List ℕ) (nodes : List Node) (values : List (List ℕ)) (inputs : List Cipher) (before rest : List Node) (given : ℕ)
+pub walks : (p : Params) (threshold : ℕ) (keys : Keys) (s : List ℕ) (nodes : List Node) (values : List (List ℕ)) (inputs : List Cipher) (before rest : List Node) (given : ℕ)
     (bounds : List ℕ) (ciphers : List Cipher) (plains : List (List ℕ)) →
-    0 < p.q → 0 < p.t → first_fault p.n p.t p.parties nodes ≡ None → is_switch_free nodes ≡ true → AreInputs p s nodes values inputs →
+    0 < p.q → 0 < p.t → first_fault p.n p.t p.parties nodes ≡ None → is_switch_free nodes ≡ true → AreInputs p threshold s nodes values inputs →
     nodes ≡ before ++ rest → given + length (owners rest) ≡ length (owners nodes) → Walked p s nodes (length before) bounds ciphers plains →
-    Walked p s nodes (length nodes) (bounds_from (numbers_of p) nodes bounds rest) (ciphers_from p.q p.n p.t inputs nodes ciphers given rest) (values_from p.n p.t values plains given rest)
+    Walked p s nodes (length nodes) (bounds_from (numbers_for p threshold) nodes bounds rest) (ciphers_from (numbers_of p) keys inputs nodes ciphers given rest) (values_from p.n p.t values plains given rest)
 unfolding bounds_from ciphers_from values_from is_switch_free
-walks p s nodes values inputs before [] given bounds ciphers plains h ht legal free ready e all w =
+walks p threshold keys s nodes values inputs before [] given bounds ciphers plains h ht legal free ready e all w =
     subst (λ (k : ℕ). Walked p s nodes k bounds ciphers plains) (sym (ap length (e ∙ append-nil before))) w
-walks p s nodes values inputs before (node ∷ rest) given bounds ciphers plains h ht legal free ready e all w =
+walks p threshold keys s nodes values inputs before (node ∷ rest) given bounds ciphers plains h ht legal free ready e all w =
     let k = length before in
     let at : slice_get nodes k ≡ Some node =
     ap (λ (xs : List Node). slice_get xs k) e
@@ -94,15 +96,15 @@ walks p s nodes values inputs before (node ∷ rest) given bounds ciphers plains
     ∙ ap Some (get_or_at before node rest node k refl) in
     let both = both_pass (not (has_product nodes)) (not (list_any is_rotation nodes)) free in
     let passed = owners_more given node rest in
-    let v = node_bound (numbers_of p) nodes bounds node in
-    let c = node_cipher p.q p.n p.t inputs nodes ciphers given node in
+    let v = node_bound (numbers_for p threshold) nodes bounds node in
+    let c = node_cipher (numbers_of p) keys inputs nodes ciphers given node in
     let m = node_value p.n p.t values plains given node in
     let here : Holds p s nodes k v c m =
-    node_holds p s nodes values inputs k given bounds ciphers plains node h ht ready w.each at (each_stands p.n p.t p.parties k nodes node legal at)
+    node_holds p threshold keys s nodes values inputs k given bounds ciphers plains node h ht ready w.each at (each_stands p.n p.t p.parties k nodes node legal at)
     (passes_none is_rotation nodes k node (not-true (list_any is_rotation nodes) both.1) at)
     (passes_none (is_full nodes) nodes k node (not-true (has_product nodes) both.0) at)
     (omega (arith, all, passed)) in
-    walks p s nodes values inputs (before ++ node ∷ []) rest (given_after given node) (bounds ++ v ∷ []) (ciphers ++ c ∷ []) (plains ++ m ∷ []) h ht legal free ready
+    walks p threshold keys s nodes values inputs (before ++ node ∷ []) rest (given_after given node) (bounds ++ v ∷ []) (ciphers ++ c ∷ []) (plains ++ m ∷ []) h ht legal free ready
     (e ∙ sym (append_assoc before (node ∷ []) rest)) (sym passed ∙ all)
     (subst (λ (j : ℕ). Walked p s nodes j (bounds ++ v ∷ []) (ciphers ++ c ∷ []) (plains ++ m ∷ [])) (sym (longer before node k refl))
     (walked_more p s nodes k v c m bounds ciphers plains w here))

@@ -8,31 +8,32 @@ use Rattle.circuit_form.specs.declared.node.Node.{Node}
 use Rattle.circuit_form.specs.Circuits.{first_fault, owners}
 use Rattle.circuit_form.specs.Values.{plain_value}
 use Rattle.param_set.specs.Numbers.{numbers_of}
-use Rattle.noise_ledger.specs.Bounds.{limit, input_bound}
+use Rattle.noise_ledger.specs.Bounds.{numbers_for, limit, input_bound}
 use Rattle.noise_ledger.specs.Ledger.{first_over}
+use Rattle.cipher_spec.specs.Keys.{Keys}
 use Rattle.cipher_spec.specs.Ciphers.{is_switch_free, cipher_at, output_cipher}
 
 -- ciphertexts of a circuit's inputs, each of which carries its value under the secret s within the bound of an
--- input
-pub record AreInputs (p : Params) (s : List ℕ) (nodes : List Node) (values : List (List ℕ)) (inputs : List Cipher) : Type 0 where
+-- input, where the ledger is asked with the given T
+pub record AreInputs (p : Params) (threshold : ℕ) (s : List ℕ) (nodes : List Node) (values : List (List ℕ)) (inputs : List Cipher) : Type 0 where
   pub ciphers : length inputs ≡ length (owners nodes)
   pub polys : length values ≡ length (owners nodes)
   pub fit : All (CipherFits p.q p.n) inputs
   pub plain : All (IsPoly p.t p.n) values
-  pub carry : (k : ℕ) → k < length (owners nodes) → Carries p.q p.n p.t s (input_bound (numbers_of p)) (cipher_at inputs k) (slice_index_or values k [])
+  pub carry : (k : ℕ) → k < length (owners nodes) → Carries p.q p.n p.t s (input_bound (numbers_for p threshold)) (cipher_at inputs k) (slice_index_or values k [])
 
--- a ciphertext carries a plaintext within a noise that leaves room for the flood of each party
-pub record Opens (p : Params) (s : List ℕ) (c : Cipher) (m : List ℕ) : Type 0 where
+-- a ciphertext carries a plaintext within a noise that leaves room for the flood of each of T parties
+pub record Opens (p : Params) (threshold : ℕ) (s : List ℕ) (c : Cipher) (m : List ℕ) : Type 0 where
   pub noise : ℕ
-  pub within : noise + p.threshold * p.flood ≤ limit (numbers_of p)
+  pub within : noise + threshold * p.flood ≤ limit (numbers_for p threshold)
   pub carries : Carries p.q p.n p.t s noise c m
   pub plain : IsPoly p.t p.n m
   pub fits : CipherFits p.q p.n c
 
--- the output of an admitted circuit that needs no key switch carries its plain value
+-- the output of an admitted circuit that needs no key switch carries its plain value, whatever the keys
 abbrev pub OutputsCarry : Type 0
 OutputsCarry =
-    (p : Params) (s : List ℕ) (nodes : List Node) (values : List (List ℕ)) (inputs : List Cipher)
-    → first_fault p.n p.t p.parties nodes ≡ None → is_switch_free nodes ≡ true → first_over (numbers_of p) nodes ≡ None
-    → IsPoly p.q p.n s → AreInputs p s nodes values inputs
-    → Opens p s (output_cipher p.q p.n p.t inputs nodes) (plain_value p.n p.t values nodes)
+    (p : Params) (threshold : ℕ) (keys : Keys) (s : List ℕ) (nodes : List Node) (values : List (List ℕ)) (inputs : List Cipher)
+    → first_fault p.n p.t p.parties nodes ≡ None → is_switch_free nodes ≡ true → first_over (numbers_for p threshold) nodes ≡ None
+    → IsPoly p.q p.n s → AreInputs p threshold s nodes values inputs
+    → Opens p threshold s (output_cipher (numbers_of p) keys inputs nodes) (plain_value p.n p.t values nodes)

@@ -9,15 +9,16 @@ use Rattle.circuit_form.specs.Circuits.{first_fault}
 use Rattle.circuit_form.specs.Values.{entry, values_from, plain_value}
 use Rattle.noise_ledger.specs.declared.over.Place.TheVariants.{Output}
 use Rattle.noise_ledger.specs.declared.over.Place.TheVariants.{Node as AtNode}
-use Rattle.param_set.specs.Numbers.{numbers_of}
-use Rattle.noise_ledger.specs.Bounds.{limit}
+use Rattle.param_set.specs.Numbers.{Numbers, numbers_of}
+use Rattle.noise_ledger.specs.Bounds.{numbers_for, limit}
 use Rattle.noise_ledger.specs.Ledger.{place_bound, first_over}
+use Rattle.cipher_spec.specs.Keys.{Keys}
 use Rattle.cipher_spec.specs.Ciphers.{is_switch_free, cipher_at, ciphers_from, output_cipher}
 use Rattle.circuit_laws.specs.Carrying.{AreInputs}
 
 -- the ciphertexts of a circuit's nodes, and their polynomials, each from those of the inputs
-unfoldable pub node_ciphers : ℕ → ℕ → ℕ → List Cipher → List Node → List Cipher
-node_ciphers q n t inputs nodes = ciphers_from q n t inputs nodes [] 0 nodes
+unfoldable pub node_ciphers : Numbers → Keys → List Cipher → List Node → List Cipher
+node_ciphers p keys inputs nodes = ciphers_from p keys inputs nodes [] 0 nodes
 
 unfoldable pub node_values : ℕ → ℕ → List (List ℕ) → List Node → List (List ℕ)
 node_values n t values nodes = values_from n t values [] 0 nodes
@@ -28,24 +29,25 @@ pub record CarriesWithin (p : Params) (s : List ℕ) (noise : ℕ) (c : Cipher) 
   pub plain : IsPoly p.t p.n m
   pub fits : CipherFits p.q p.n c
 
--- each node of a circuit that needs no key switch carries its plain value within its own bound of the ledger
+-- each node of a circuit that needs no key switch carries its plain value within its own bound of the ledger,
+-- whatever the keys
 abbrev pub NodesCarry : Type 0
 NodesCarry =
-    (p : Params) (s : List ℕ) (nodes : List Node) (values : List (List ℕ)) (inputs : List Cipher) (k : ℕ)
+    (p : Params) (threshold : ℕ) (keys : Keys) (s : List ℕ) (nodes : List Node) (values : List (List ℕ)) (inputs : List Cipher) (k : ℕ)
     → first_fault p.n p.t p.parties nodes ≡ None → is_switch_free nodes ≡ true
-    → IsPoly p.q p.n s → AreInputs p s nodes values inputs → k < length nodes
-    → CarriesWithin p s (place_bound (numbers_of p) nodes (AtNode k)) (cipher_at (node_ciphers p.q p.n p.t inputs nodes) k) (entry (node_values p.n p.t values nodes) k)
+    → IsPoly p.q p.n s → AreInputs p threshold s nodes values inputs → k < length nodes
+    → CarriesWithin p s (place_bound (numbers_for p threshold) nodes (AtNode k)) (cipher_at (node_ciphers (numbers_of p) keys inputs nodes) k) (entry (node_values p.n p.t values nodes) k)
 
 -- and so its output within the last node's bound
 abbrev pub OutputsKeepTheBound : Type 0
 OutputsKeepTheBound =
-    (p : Params) (s : List ℕ) (nodes : List Node) (values : List (List ℕ)) (inputs : List Cipher)
+    (p : Params) (threshold : ℕ) (keys : Keys) (s : List ℕ) (nodes : List Node) (values : List (List ℕ)) (inputs : List Cipher)
     → first_fault p.n p.t p.parties nodes ≡ None → is_switch_free nodes ≡ true
-    → IsPoly p.q p.n s → AreInputs p s nodes values inputs
-    → CarriesWithin p s (place_bound (numbers_of p) nodes (AtNode (length nodes - 1))) (output_cipher p.q p.n p.t inputs nodes) (plain_value p.n p.t values nodes)
+    → IsPoly p.q p.n s → AreInputs p threshold s nodes values inputs
+    → CarriesWithin p s (place_bound (numbers_for p threshold) nodes (AtNode (length nodes - 1))) (output_cipher (numbers_of p) keys inputs nodes) (plain_value p.n p.t values nodes)
 
 -- where the circuit is admitted no node's bound is above the limit, nor the output's with the floods
 abbrev pub AdmittedOnesKeepTheLimit : Type 0
 AdmittedOnesKeepTheLimit =
-    (p : Params) (nodes : List Node) → first_over (numbers_of p) nodes ≡ None
-    → ((k : ℕ) → place_bound (numbers_of p) nodes (AtNode k) ≤ limit (numbers_of p)) × (place_bound (numbers_of p) nodes Output ≤ limit (numbers_of p))
+    (p : Params) (threshold : ℕ) (nodes : List Node) → first_over (numbers_for p threshold) nodes ≡ None
+    → ((k : ℕ) → place_bound (numbers_for p threshold) nodes (AtNode k) ≤ limit (numbers_for p threshold)) × (place_bound (numbers_for p threshold) nodes Output ≤ limit (numbers_for p threshold))

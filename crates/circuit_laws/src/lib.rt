@@ -3,8 +3,8 @@
 //! After Fan and Vercauteren 2012: where the inputs carry their values within the bound of a fresh
 //! encryption, every node carries the polynomial that the plain circuit has there, within the bound that
 //! `noise_ledger` computes, and the output of an admitted circuit leaves room for the flood of each party
-//! that decrypts. It holds for all parameters and for circuits that need no key switch. Nothing is said of
-//! who makes the inputs.
+//! that decrypts, as many as the ledger is asked with. It holds for all parameters and for circuits that need
+//! no key switch, whose ciphertexts are the same under any keys. Nothing is said of who makes the inputs.
 #![tactic(auto)]
 
 pub mod laws;
