@@ -19,7 +19,8 @@ use Rattle.session_rules.proofs.Grounds.{opening_grounds}
 use Rattle.session_rules.proofs.Whole.{circuits_are_whole}
 use Rattle.session_spec.specs.Settings.{Setting, Offer, nodes_of, rules}
 use Rattle.session_spec.specs.Stores.{no_inputs, empty}
-use Rattle.session_spec.specs.Laws.{OpeningIsHonest, count_inputs, Matches}
+use Rattle.session_spec.specs.Honesty.{count_inputs, Matches}
+use Rattle.session_laws.specs.Laws.{OpeningIsHonest}
 use Rattle.session_laws.specs.Beginnings.{OpeningStands}
 use Rattle.session_laws.proofs.Plans.{rules_number, settled_begun}
 
@@ -70,9 +71,10 @@ opening_matches w = record {
 }
 
 pub opening_stands : OpeningStands
-opening_stands p w seeds setting values parties = record {
+opening_stands p w seeds setting values free parties = record {
   setting = setting;
   values = values;
+  free = free;
   parties = parties;
   kept = opening_kept (rules w);
   grounded = (opening_grounds (rules w) (rules_whole w)).1;

@@ -26,7 +26,7 @@ use Rattle.session_spec.specs.Settings.{Setting, rules, gadget_rows, IsSetting}
 use Rattle.session_spec.specs.Outputs.{key_in, input_of, output_of, share_of}
 use Rattle.session_spec.specs.Stores.{Store, Brought, share_brought, cipher_brought, grown, with_input, with_output, with_turn, with_deed, store_done}
 use Rattle.session_spec.specs.Honesty.{IsHonest, BringsShare, BringsInput, BringsOutput, Brings}
-use Rattle.session_spec.specs.Laws.{AnswersArePlain, Stands, CallsKeepHonest, SharesAreBrought, InputsAreBrought, OutputsAreBrought}
+use Rattle.session_laws.specs.Laws.{AnswersArePlain, Stands, CallsKeepHonest, SharesAreBrought, InputsAreBrought, OutputsAreBrought}
 use Rattle.session_laws.proofs.Plans.{rules_rows}
 use Rattle.session_laws.proofs.Keys.{Keyed, keyed}
 use Rattle.session_laws.proofs.Holding.{Holds, holds_from, honest_from, issue_holds}

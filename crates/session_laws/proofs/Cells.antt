@@ -5,7 +5,7 @@ use Rattle.ring_spec.specs.Pairs.{Cipher}
 use Rattle.session_rules.specs.States.{State}
 use Rattle.session_spec.specs.Settings.{Setting, no_offer, input_count}
 use Rattle.session_spec.specs.Stores.{Store}
-use Rattle.session_spec.specs.Laws.{count_inputs, Matches}
+use Rattle.session_spec.specs.Honesty.{count_inputs, Matches}
 
 -- ---- one entry of one row
 

@@ -4,6 +4,8 @@ use Rattle.std.specs.Prelude.{nat_eq}
 use Rattle.std.specs.List.{slice_get}
 use Rattle.std.proofs.lemmas.Option.{slice_get-get_or, get_or_from_slice_get, slice_get_within}
 use Rattle.ring_spec.specs.Pairs.{Key}
+use Rattle.cipher_spec.specs.Keys.{Keys}
+use Rattle.proto_names.specs.Roles.{Role, role_of}
 use Rattle.proto_names.specs.Instances.{instance}
 use Rattle.proto_names.specs.declared.signature.Signature.{Signature}
 use Rattle.proto_names.specs.declared.sets.PartySet.{PartySet}
@@ -14,12 +16,12 @@ use Rattle.session_rules.proofs.Readiness.{ready_is}
 use Rattle.session_rules.proofs.Keeps.{histories_keep}
 use Rattle.session_rules.proofs.Grounds.{histories_ground}
 use Rattle.session_rules.proofs.Runs.{later_ones_follow}
-use Rattle.session_spec.specs.Settings.{Setting, rules, input_count}
+use Rattle.session_spec.specs.Settings.{Setting, rules}
 use Rattle.session_spec.specs.Shares.{share_rows}
-use Rattle.session_spec.specs.Outputs.{key_in, input_of, inputs_of, output_of, polys_of, share_of}
+use Rattle.session_spec.specs.Outputs.{key_in, keys_in, input_of, polys_of, share_of}
 use Rattle.session_laws.specs.Constancy.{HistoriesLeadOn, KeyStays, InputsStay, ReadyOnesStay, IssuedOnesStay}
 use Rattle.session_laws.proofs.Beginnings.{rules_whole}
-use Rattle.session_laws.proofs.Keys.{key_stays, given_keyed, keyed, no_key_needed, polys_stay}
+use Rattle.session_laws.proofs.Keys.{same_role, key_stays, circuit_stays, given_keyed, keyed, polys_stay}
 
 pub histories_lead_on : HistoriesLeadOn
 histories_lead_on w es more = record {
@@ -38,23 +40,10 @@ inputs_stay w seeds s t c k y given =
 
 -- ---- a circuit that is ready
 
--- one without inputs has the same under every key
-no_inputs : (w : Setting) (seeds : List (List ℕ)) (key other : Key) (c : ℕ) → input_count w c ≡ 0 → inputs_of w seeds key c ≡ inputs_of w seeds other c
-no_inputs w seeds key other c e = rw e refl
-
 pub ready_ones_stay : ReadyOnesStay
-ready_ones_stay w seeds s t c y e = elim (given_keyed w s c y.grounded (ready_is (rules w) s c e).given) [
-  | inl none ↦ record {
-    inputs = no_inputs w seeds (key_in w seeds s.instances) (key_in w seeds t.instances) c none;
-    output = no_key_needed w seeds (key_in w seeds s.instances) (key_in w seeds t.instances) c none;
-  }
-  | inr done ↦
-      let same = key_stays w seeds s t y.kept_later y.later done in
-      record {
-        inputs = ap (λ (z : Key). inputs_of w seeds z c) same;
-        output = ap (λ (z : Key). output_of w seeds z c) same;
-      }
-]
+ready_ones_stay w seeds s t c y e =
+    let ready = ready_is (rules w) s c e in
+    circuit_stays w seeds s t c y.kept_later y.later (given_keyed w s c y.grounded ready.given) ready.keys
 
 -- ---- an instance
 
@@ -75,16 +64,13 @@ numbered_there is others id i now e there = at (nat_eq id 0) e
     at true e = cc
     at false e = there
 
--- the same instance with the same brief has the same shares
-same_shares : (w : Setting) (seeds : List (List ℕ)) (key other : Key) (i now : Instance) (j : ℕ) → IsSameLater i now → polys_of w seeds key i.signature ≡ polys_of w seeds other now.signature
-    → share_of w seeds key i j ≡ share_of w seeds other now j
+-- the same instance that is told the same has the same shares
+same_shares : (w : Setting) (seeds : List (List ℕ)) (keys other : ℕ → Keys) (i now : Instance) (j : ℕ) → role_of i ≡ role_of now → polys_of w seeds keys (role_of i) ≡ polys_of w seeds other (role_of now)
+    → share_of w seeds keys i j ≡ share_of w seeds other now j
 unfolding share_of
-same_shares w seeds key other i now j same polys =
-    let told = polys_of w seeds other now.signature in
-    ap (λ (z : List (List ℕ)). share_rows w seeds i.signature i.id i.set.bits z j) polys
-    ∙ ap (λ (z : Signature). share_rows w seeds z i.id i.set.bits told j) (sym same.signature)
-    ∙ ap (λ (z : ℕ). share_rows w seeds now.signature z i.set.bits told j) (sym same.id)
-    ∙ ap (λ (z : PartySet). share_rows w seeds now.signature now.id z.bits told j) (sym same.set)
+same_shares w seeds keys other i now j role polys =
+    ap (λ (z : List (List ℕ)). share_rows w seeds (role_of i) z j) polys
+    ∙ ap (λ (z : Role). share_rows w seeds z (polys_of w seeds other (role_of now)) j) role
 
 -- an instance that is issued is there later under its number
 pub record FoundLater (t : State) (id : ℕ) (i : Instance) : Type 0 where
@@ -114,12 +100,13 @@ issued_ones_stay w seeds s t id i y issued alive =
     let below : place < length s.instances = slice_get_within s.instances place i here in
     let at = get_or_from_slice_get s.instances place i i here in
     let x = found_later s t id i y.later issued in
+    let role = same_role i x.now x.same in
     let polys = polys_stay w seeds s t i y.kept (keyed w s y.grounded) y.kept_later y.later (place, below, at) alive
-    ∙ ap (λ (z : Signature). polys_of w seeds (key_in w seeds t.instances) z) (sym x.same.signature) in (
+    ∙ ap (λ (z : Role). polys_of w seeds (keys_in w seeds t.instances) z) role in (
       x.now,
       x.there,
       record {
         polys = polys;
-        shares = λ j. same_shares w seeds (key_in w seeds s.instances) (key_in w seeds t.instances) i x.now j x.same polys;
+        shares = λ j. same_shares w seeds (keys_in w seeds s.instances) (keys_in w seeds t.instances) i x.now j role polys;
       },
     )

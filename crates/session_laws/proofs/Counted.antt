@@ -1,10 +1,10 @@
 -- What the counting of a share makes of the instances, the circuits and the store.
 use Rattle.std.proofs.Common.{◌≡◌, ◌≢◌, ◌∙◌, sym, ap, subst, refl, ℕ, ◌-◌, ◌<◌, List, [], length, Contains, arith}
 use Rattle.std.proofs.lemmas.List.{get_or-set_same, get_or-set_other, length-map}
-use Rattle.ring_spec.specs.Pairs.{Key}
+use Rattle.cipher_spec.specs.Keys.{Keys}
 use Rattle.proto_names.specs.Groups.{with_party}
 use Rattle.proto_names.specs.Instances.{with_share, counted_at, after_share}
-use Rattle.proto_names.specs.declared.signature.Signature.{Signature}
+use Rattle.proto_names.specs.Roles.{Role, role_of}
 use Rattle.proto_names.specs.declared.instance.Instance.{Instance}
 use Rattle.proto_names.specs.declared.instance.Stage.TheVariants.{Opened}
 use Rattle.instance_table.specs.Tables.{rows_sum, after_rows}
@@ -17,20 +17,20 @@ use Rattle.session_rules.proofs.Keeps.{Waits}
 use Rattle.session_rules.proofs.Within.{CountedFrom, itself, another, counted_from}
 use Rattle.session_spec.specs.Settings.{Setting, rules}
 use Rattle.session_spec.specs.Shares.{sum_rows, share_rows}
-use Rattle.session_spec.specs.Outputs.{key_in, polys_of, share_of, sums_of}
+use Rattle.session_spec.specs.Outputs.{keys_in, polys_of, share_of, sums_of}
 use Rattle.session_spec.specs.Stores.{Store, held_polys, held_sums, with_rows}
-use Rattle.session_spec.specs.Laws.{Stands}
+use Rattle.session_laws.specs.Laws.{Stands}
 use Rattle.session_laws.proofs.Keys.{keyed, polys_stay}
 use Rattle.session_laws.proofs.Totals.{more_sums}
 use Rattle.session_laws.proofs.Holding.{Told, Summed, Holds, holds_from, setting_modulus, sums_stay}
 
 module _ (p : Params) (w : Setting) (seeds : List (List ℕ)) (s : State) (h : Store) (i : Instance) (party : ℕ) (rows : List (List ℕ)) (y : Stands p w seeds s h) (its : Waits s i party)
-    (honest : rows ≡ share_of w seeds (key_in w seeds s.instances) i party) where
+    (honest : rows ≡ share_of w seeds (keys_in w seeds s.instances) i party) where
   abbrev instances : List Instance
   instances = after_share i.id party s.instances
 
-  abbrev key : Key
-  key = key_in w seeds s.instances
+  abbrev keys : ℕ → Keys
+  keys = keys_in w seeds s.instances
 
   abbrev added : Store
   added = with_rows w i.id rows h
@@ -54,7 +54,7 @@ module _ (p : Params) (w : Setting) (seeds : List (List ℕ)) (s : State) (h : S
   -- ---- the sums
 
   abbrev polys : List (List ℕ)
-  polys = polys_of w seeds key i.signature
+  polys = polys_of w seeds keys (role_of i)
 
   held_holds : Holds w seeds s h
   held_holds = holds_from w seeds s h (y.kept.numbered) y.honest
@@ -67,24 +67,24 @@ module _ (p : Params) (w : Setting) (seeds : List (List ℕ)) (s : State) (h : S
       let many = matches.sums in
       omega arith
 
-  was_sums : held_sums h i.id ≡ sum_rows w seeds i.signature i.id i.set.bits polys i.sent.bits
+  was_sums : held_sums h i.id ≡ sum_rows w seeds (role_of i) polys i.sent.bits
   unfolding sums_of
   was_sums = held_holds.sums i issued (opened_lives i opened_still)
 
-  share_is : rows ≡ share_rows w seeds i.signature i.id i.set.bits polys party
+  share_is : rows ≡ share_rows w seeds (role_of i) polys party
   unfolding share_of
   share_is = honest
 
   -- those of the instance are those of one more party
-  pub added_sums : held_sums added i.id ≡ sum_rows w seeds i.signature i.id i.set.bits polys (with_party i.sent.bits party)
+  pub added_sums : held_sums added i.id ≡ sum_rows w seeds (role_of i) polys (with_party i.sent.bits party)
   unfolding with_rows after_rows
   added_sums =
       let q = w.numbers.q in let n = w.numbers.n in
       let range = has_party i.set.bits party its.member in
       get_or-set_same h.sums (i.id - 1) (rows_sum q n (held_sums h i.id) rows) [] place
       ∙ ap (λ (z : List (List ℕ)). rows_sum q n z rows) was_sums
-      ∙ ap (rows_sum q n (sum_rows w seeds i.signature i.id i.set.bits polys i.sent.bits)) share_is
-      ∙ more_sums w seeds i.signature i.id i.set.bits polys i.sent.bits party (setting_modulus p w y.setting) range.0 range.1 its.unsent
+      ∙ ap (rows_sum q n (sum_rows w seeds (role_of i) polys i.sent.bits)) share_is
+      ∙ more_sums w seeds (role_of i) polys i.sent.bits party (setting_modulus p w y.setting) range.0 range.1 its.unsent
 
   -- and those of another one are what they were
   other_sums : (j : Instance) → Contains s.instances j → j.id ≢ i.id → held_sums added j.id ≡ held_sums h j.id
@@ -94,39 +94,38 @@ module _ (p : Params) (w : Setting) (seeds : List (List ℕ)) (s : State) (h : S
       let b = numbered_at s.instances j y.kept.numbered m in
       get_or-set_other h.sums (i.id - 1) (j.id - 1) (rows_sum w.numbers.q w.numbers.n (held_sums h i.id) rows) [] (λ e. other (omega arith))
 
-  share_sums : (other : Key) → polys ≡ polys_of w seeds other i.signature → sum_rows w seeds i.signature i.id i.set.bits polys (with_party i.sent.bits party) ≡ sums_of w seeds other itself_then
+  share_sums : (other : ℕ → Keys) → polys ≡ polys_of w seeds other (role_of i) → sum_rows w seeds (role_of i) polys (with_party i.sent.bits party) ≡ sums_of w seeds other itself_then
   unfolding sums_of with_share
-  share_sums other e = ap (λ (z : List (List ℕ)). sum_rows w seeds i.signature i.id i.set.bits z (with_party i.sent.bits party)) e
+  share_sums other e = ap (λ (z : List (List ℕ)). sum_rows w seeds (role_of i) z (with_party i.sent.bits party)) e
 
-  share_kept : (itself_then.id ≡ i.id) × (itself_then.signature ≡ i.signature)
+  share_kept : role_of itself_then ≡ role_of i
   unfolding with_share
-  share_kept = (refl, refl)
+  share_kept = refl
 
   -- ---- a later state with these instances
 
   module _ (t : State) (same : t.instances ≡ instances) (then_ : Kept (rules w) t) (later : IsLater s t) where
-    abbrev now : Key
-    now = key_in w seeds t.instances
+    abbrev now : ℕ → Keys
+    now = keys_in w seeds t.instances
 
-    its_polys : polys ≡ polys_of w seeds now i.signature
+    its_polys : polys ≡ polys_of w seeds now (role_of i)
     its_polys = polys_stay w seeds s t i y.kept (keyed w s y.grounded) then_ later issued (opened_lives i opened_still)
 
     pub counted_told : Told w seeds now added t.instances
     unfolding with_rows
     counted_told j m alive = elim (counted_of j (subst (λ (z : List Instance). Contains z j) same m)) [
       | itself it ↦
-          let ids : j.id ≡ i.id = ap (λ (z : Instance). z.id) it ∙ share_kept.0 in
-          let signs : j.signature ≡ i.signature = ap (λ (z : Instance). z.signature) it ∙ share_kept.1 in
-          ap (λ (z : ℕ). held_polys h z) ids ∙ held_holds.told i issued (opened_lives i opened_still) ∙ its_polys ∙ ap (λ (z : Signature). polys_of w seeds now z) (sym signs)
+          let role : role_of j ≡ role_of i = ap (λ (z : Instance). role_of z) it ∙ share_kept in
+          ap (λ (z : Role). held_polys h z.id) role ∙ held_holds.told i issued (opened_lives i opened_still) ∙ its_polys ∙ ap (λ (z : Role). polys_of w seeds now z) (sym role)
       | another n other ↦ held_holds.told j n alive ∙ polys_stay w seeds s t j y.kept (keyed w s y.grounded) then_ later n alive
     ]
 
     pub counted_sums : Summed w seeds now added t.instances
     counted_sums j m alive = elim (counted_of j (subst (λ (z : List Instance). Contains z j) same m)) [
       | itself it ↦
-          let ids : j.id ≡ i.id = ap (λ (z : Instance). z.id) it ∙ share_kept.0 in
-          ap (λ (z : ℕ). held_sums added z) ids ∙ added_sums ∙ share_sums now its_polys ∙ ap (sums_of w seeds now) (sym it)
+          let role : role_of j ≡ role_of i = ap (λ (z : Instance). role_of z) it ∙ share_kept in
+          ap (λ (z : Role). held_sums added z.id) role ∙ added_sums ∙ share_sums now its_polys ∙ ap (sums_of w seeds now) (sym it)
       | another n other ↦
           other_sums j n other ∙ held_holds.sums j n alive
-          ∙ sums_stay w seeds key now j (polys_stay w seeds s t j y.kept (keyed w s y.grounded) then_ later n alive)
+          ∙ sums_stay w seeds keys now j (polys_stay w seeds s t j y.kept (keyed w s y.grounded) then_ later n alive)
     ]

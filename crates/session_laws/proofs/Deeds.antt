@@ -1,12 +1,14 @@
 -- What deeds make of an honest store, before anything is issued.
-use Rattle.std.proofs.Common.{◌≡◌, ◌≢◌, ◌∙◌, sym, ap, subst, refl, ℕ, ◌-◌, ◌<◌, Bool, true, false, cond, inl, inr, List, [], length, map, set, get_or, Contains, Option, Some, None, arith, length-set}
+use Rattle.std.proofs.Common.{◌≡◌, ◌≢◌, ◌∙◌, sym, ap, subst, refl, ℕ, ◌-◌, ◌<◌, Bool, true, false, cond, inl, inr, List, [], ◌∷◌, length, map, set, get_or, Contains, Option, Some, None, arith, length-set}
 use Rattle.std.specs.Prelude.{nat_lt, ◌&&◌}
 use Rattle.std.proofs.lemmas.Bool.{both_ways, cases_eq, cases_lt, and_parts, eqb-true, ltb-true}
 use Rattle.std.proofs.lemmas.List.{get_or_past, get_or-set_same, get_or-set_other, length-map}
 use Rattle.ring_spec.specs.Pairs.{Cipher, Key}
 use Rattle.param_set.specs.declared.params.Params.{Params}
 use Rattle.share_spec.specs.Sets.{has}
+use Rattle.cipher_spec.specs.Keys.{Keys}
 use Rattle.proto_names.specs.Names.{is_void}
+use Rattle.proto_names.specs.Roles.{role_of}
 use Rattle.proto_names.specs.Groups.{with_party, number_outside}
 use Rattle.proto_names.specs.Instances.{missing, after_share}
 use Rattle.proto_names.specs.declared.signature.Signature.{Signature}
@@ -26,15 +28,15 @@ use Rattle.session_rules.proofs.Shares.{decides_dec, answered_other}
 use Rattle.session_rules.proofs.Keeps.{Waits, IsTurned}
 use Rattle.session_rules.proofs.Grounds.{set_cases}
 use Rattle.session_spec.specs.Settings.{Setting, rules, plain_at, input_count}
-use Rattle.session_spec.specs.Shares.{sum_rows}
-use Rattle.session_spec.specs.Outputs.{key_in, input_of, output_of, polys_of, share_of}
+use Rattle.session_spec.specs.Shares.{full_sums}
+use Rattle.session_spec.specs.Outputs.{key_in, keys_in, input_of, output_of, told_by, polys_of, share_of}
 use Rattle.session_spec.specs.Stores.{Store, held_sums, held_input, held_output, held_answer, with_rows, with_answer, with_output}
 use Rattle.session_spec.specs.Stores as stores
-use Rattle.session_spec.specs.Laws.{AnswersArePlain, Stands}
-use Rattle.session_laws.proofs.Plans.{rules_number, circuits_number, plan_inputs, no_inputs_past, settled_begun}
+use Rattle.session_laws.specs.Laws.{AnswersArePlain, Stands}
+use Rattle.session_laws.proofs.Plans.{rules_number, rules_threshold, circuits_number, plan_inputs, no_inputs_past, settled_begun}
 use Rattle.session_laws.proofs.Keys.{Keyed, keyed, key_stays, output_stays, polys_stay}
 use Rattle.session_laws.proofs.Totals.{all_sent, same_sums}
-use Rattle.session_laws.proofs.Holding.{Holds, holds_from, sums_stay}
+use Rattle.session_laws.proofs.Holding.{Holds, holds_from, sums_stay, told_at}
 use Rattle.session_laws.proofs.Cells.{cell_same, cell_beside, cell_off, inputs_number, row_number}
 use Rattle.session_laws.proofs.Answers.{opened_plain}
 use Rattle.session_laws.proofs.Answered.{answer_told, answer_sums, answer_inputs, answer_outputs, answer_other, answer_its}
@@ -49,6 +51,9 @@ module _ (p : Params) (w : Setting) (seeds : List (List ℕ)) (s : State) (h : S
   abbrev key : Key
   key = key_in w seeds s.instances
 
+  abbrev keys : ℕ → Keys
+  keys = keys_in w seeds s.instances
+
   held : Holds w seeds s h
   held = holds_from w seeds s h y.kept.numbered y.honest
 
@@ -62,7 +67,7 @@ module _ (p : Params) (w : Setting) (seeds : List (List ℕ)) (s : State) (h : S
     same_input : (c k : ℕ) → is_given s c k ≡ true → held_input h c k ≡ Some (input_of w seeds (key_in w seeds t.instances) c k)
     same_input c k e = held.inputs c k e ∙ ap (λ (z : Key). Some (input_of w seeds z c k)) (key_stays w seeds s t kept later (keys_before.given c k e))
 
-    same_output : (c : ℕ) → c < length w.offers → is_settled (circuit s.circuits c) ≡ true → held_output h c ≡ Some (output_of w seeds (key_in w seeds t.instances) c)
+    same_output : (c : ℕ) → c < length w.offers → is_settled (circuit s.circuits c) ≡ true → held_output h c ≡ Some (output_of w seeds (keys_in w seeds t.instances c) c)
     same_output c l e = held.outputs c l e ∙ ap Some (output_stays w seeds s t c keys_before kept later (settled_begun (circuit s.circuits c) e))
 
     -- what it holds still, where what lives was there, and nothing more is given, evaluated or answered
@@ -70,7 +75,7 @@ module _ (p : Params) (w : Setting) (seeds : List (List ℕ)) (s : State) (h : S
         → ((c : ℕ) → is_settled (circuit t.circuits c) ≡ true → circuit t.circuits c ≡ circuit s.circuits c) → Holds w seeds t h
     stays there given settled = record {
       told = λ i m alive. held.told i (there i m alive) alive ∙ polys_stay w seeds s t i y.kept keys_before kept later (there i m alive) alive;
-      sums = λ i m alive. held.sums i (there i m alive) alive ∙ sums_stay w seeds key (key_in w seeds t.instances) i (polys_stay w seeds s t i y.kept keys_before kept later (there i m alive) alive);
+      sums = λ i m alive. held.sums i (there i m alive) alive ∙ sums_stay w seeds keys (keys_in w seeds t.instances) i (polys_stay w seeds s t i y.kept keys_before kept later (there i m alive) alive);
       inputs = λ c k e. same_input c k (given c k e);
       outputs = λ c l e. same_output c l (subst (λ (z : CircuitState). is_settled z ≡ true) (settled c e) e);
       answers = λ c l e. held.answers c l (sym (settled c (rw e refl)) ∙ e);
@@ -107,7 +112,7 @@ module _ (p : Params) (w : Setting) (seeds : List (List ℕ)) (s : State) (h : S
         | inr it ↦ absurd (both_ways (is_settled now) unsettled (subst (λ (z : CircuitState). is_settled z ≡ true) it.1 e))
       ])
 
-  module _ (c : ℕ) (ct : Cipher) (brought : ct ≡ output_of w seeds key c) where
+  module _ (c : ℕ) (ct : Cipher) (brought : ct ≡ output_of w seeds (keys c) c) where
     pub evaluate_holds : IsTurned (circuit s.circuits c) Evaluated → Kept (rules w) (changed (Turns c Evaluated) s) → IsLater s (changed (Turns c Evaluated) s) → Holds w seeds (changed (Turns c Evaluated) s) (with_output c ct h)
     unfolding changed with_output
     evaluate_holds was kept later =
@@ -171,7 +176,7 @@ module _ (p : Params) (w : Setting) (seeds : List (List ℕ)) (s : State) (h : S
 
   -- ---- a share is counted
 
-  module _ (law : AnswersArePlain) (i : Instance) (party : ℕ) (rows : List (List ℕ)) (its : Waits s i party) (honest : rows ≡ share_of w seeds key i party) where
+  module _ (law : AnswersArePlain) (i : Instance) (party : ℕ) (rows : List (List ℕ)) (its : Waits s i party) (honest : rows ≡ share_of w seeds keys i party) where
     abbrev added : Store
     added = with_rows w i.id rows h
 
@@ -228,21 +233,23 @@ module _ (p : Params) (w : Setting) (seeds : List (List ℕ)) (s : State) (h : S
     ]
 
     -- the sums are those of the whole set
-    whole_sums : is_last party i ≡ true → (c : ℕ) → i.signature ≡ Dec c → held_sums added i.id ≡ sum_rows w seeds (Dec c) i.id i.set.bits (polys_of w seeds key (Dec c)) i.set.bits
+    whole_sums : is_last party i ≡ true → (c : ℕ) → i.signature ≡ Dec c → held_sums added i.id ≡ full_sums w seeds (role_of i) ((output_of w seeds (keys c) c).c1 ∷ [])
+    unfolding told_by
     whole_sums last c mark =
+        let polys = polys_of w seeds keys (role_of i) in
         added_sums p w seeds s h i party rows y its honest
-        ∙ same_sums w seeds i.signature i.id i.set.bits (polys_of w seeds key i.signature) (with_party i.sent.bits party) i.set.bits (all_sent i.set.bits (with_party i.sent.bits party) senders (nobody_missing last))
-        ∙ ap (λ (z : Signature). sum_rows w seeds z i.id i.set.bits (polys_of w seeds key z) i.set.bits) mark
+        ∙ same_sums w seeds (role_of i) polys (with_party i.sent.bits party) i.set.bits (all_sent i.set.bits (with_party i.sent.bits party) senders (nobody_missing last))
+        ∙ ap (full_sums w seeds (role_of i)) (told_at w seeds keys i (Dec c) mark)
 
     answered : is_last party i ≡ true → (c : ℕ) → c < length w.offers → circuit (answered_by i.signature s.circuits) c ≡ Answered → held_answer closed c ≡ Some (plain_at w c)
     answered last c l e = elim (decides_dec i.signature c) [
       | inl mark ↦
           let matches = y.matches in
           let within : c < length added.answers = omega (arith, matches.answers, ap length added_answers) in
-          let output : held_output added c ≡ Some (output_of w seeds key c) =
+          let output : held_output added c ≡ Some (output_of w seeds (keys c) c) =
           ap (λ (z : List (Option Cipher)). get_or z c None) added_outputs ∙ held.outputs c l (ap (λ (z : CircuitState). is_settled z) (evaluated_before c mark)) in
           answer_its w i.id i.signature added c mark within
-          ∙ ap Some (opened_plain p w seeds s h added c i.id i.id i.set.bits law y (evaluated_before c mark) sound.parties output (whole_sums last c mark))
+          ∙ ap Some (opened_plain p w seeds s h added c i.id (role_of i) law y (evaluated_before c mark) (record { signature = mark; parties = sound.parties ∙ rules_threshold w }) output (whole_sums last c mark))
       | inr other ↦
           answer_other w i.id i.signature added c other ∙ ap (λ (z : List (Option (List ℕ))). get_or z c None) added_answers
           ∙ held.answers c l (sym (answered_other i.signature s.circuits c other) ∙ e)

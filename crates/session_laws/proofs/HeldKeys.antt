@@ -10,7 +10,7 @@ use Rattle.session_rules.proofs.Marks.{complete_lives}
 use Rattle.session_spec.specs.Settings.{Setting, rules}
 use Rattle.session_spec.specs.Shares.{sum_rows, key_of}
 use Rattle.session_spec.specs.Outputs.{key_in, polys_of, sums_of}
-use Rattle.session_spec.specs.Laws.{HeldKeysAreKeys}
+use Rattle.session_laws.specs.Laws.{HeldKeysAreKeys}
 use Rattle.session_laws.proofs.Keys.{key_found, key_at}
 use Rattle.session_laws.proofs.Totals.{all_sent, same_sums}
 use Rattle.session_laws.proofs.Holding.{holds_from}

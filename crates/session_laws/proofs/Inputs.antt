@@ -10,7 +10,7 @@ use Rattle.session_rules.proofs.Readiness.{all_at, ready_is}
 use Rattle.session_spec.specs.Settings.{Setting, rules, input_count}
 use Rattle.session_spec.specs.Outputs.{key_in, input_of, inputs_of}
 use Rattle.session_spec.specs.Stores.{cipher_or}
-use Rattle.session_spec.specs.Laws.{ReadyOnesHaveInputs}
+use Rattle.session_laws.specs.Laws.{ReadyOnesHaveInputs}
 use Rattle.session_laws.proofs.Plans.{plan_inputs}
 use Rattle.session_laws.proofs.Cells.{row_number}
 

@@ -16,7 +16,7 @@ use Rattle.ring_laws.proofs.Aggregates.{total_permutation}
 use Rattle.share_spec.specs.Sets.{has, members_to, members}
 use Rattle.proto_names.specs.Names.{rows_of}
 use Rattle.proto_names.specs.Groups.{with_party, number_outside}
-use Rattle.proto_names.specs.declared.signature.Signature.{Signature}
+use Rattle.proto_names.specs.Roles.{Role}
 use Rattle.instance_table.specs.Tables.{row_sum, rows_sum}
 use Rattle.instance_table.proofs.Added.{rows_sum-number}
 use Rattle.session_rules.proofs.PartySets.{has_nobody, with_keeps, with_has, with_cases, nobody_outside}
@@ -101,44 +101,44 @@ one_total : (q n : ℕ) (g : ℕ → List ℕ) (p : ℕ) (ps : List ℕ) → rin
 unfolding ring_total
 one_total q n g p ps = ring_sum_commutes q n (g p) (ring_total q n (map g ps))
 
-module _ (w : Setting) (seeds : List (List ℕ)) (σ : Signature) (id set : ℕ) (polys : List (List ℕ)) where
-  sum_at : (sent r : ℕ) → r < rows_of σ (gadget_rows w) → get_or (sum_rows w seeds σ id set polys sent) r [] ≡ sum_row w seeds σ id set polys sent r
+module _ (w : Setting) (seeds : List (List ℕ)) (role : Role) (polys : List (List ℕ)) where
+  sum_at : (sent r : ℕ) → r < rows_of role.signature (gadget_rows w) → get_or (sum_rows w seeds role polys sent) r [] ≡ sum_row w seeds role polys sent r
   unfolding sum_rows
-  sum_at sent r l = get_or-map-range_with_len (sum_row w seeds σ id set polys sent) 0 (rows_of σ (gadget_rows w)) r r [] l (omega arith)
+  sum_at sent r l = get_or-map-range_with_len (sum_row w seeds role polys sent) 0 (rows_of role.signature (gadget_rows w)) r r [] l (omega arith)
 
-  pub sums_number : (sent : ℕ) → length (sum_rows w seeds σ id set polys sent) ≡ rows_of σ (gadget_rows w)
+  pub sums_number : (sent : ℕ) → length (sum_rows w seeds role polys sent) ≡ rows_of role.signature (gadget_rows w)
   unfolding sum_rows
-  sums_number sent = length-map-range_with_len (sum_row w seeds σ id set polys sent) 0 (rows_of σ (gadget_rows w))
+  sums_number sent = length-map-range_with_len (sum_row w seeds role polys sent) 0 (rows_of role.signature (gadget_rows w))
 
-  nobody_row : (r : ℕ) → 0 < w.numbers.q → sum_row w seeds σ id set polys 0 r ≡ replicate w.numbers.n 0
+  nobody_row : (r : ℕ) → 0 < w.numbers.q → sum_row w seeds role polys 0 r ≡ replicate w.numbers.n 0
   unfolding sum_row
   nobody_row r h = rw no_members (zero_total w.numbers.q w.numbers.n h)
 
   -- where nobody has sent they are zeros
-  pub nobody_sums : 0 < w.numbers.q → replicate (rows_of σ (gadget_rows w)) (replicate w.numbers.n 0) ≡ sum_rows w seeds σ id set polys 0
+  pub nobody_sums : 0 < w.numbers.q → replicate (rows_of role.signature (gadget_rows w)) (replicate w.numbers.n 0) ≡ sum_rows w seeds role polys 0
   nobody_sums h =
-      let many = rows_of σ (gadget_rows w) in
+      let many = rows_of role.signature (gadget_rows w) in
       let zeros = replicate w.numbers.n 0 in
-      ext_get_or [] (replicate many zeros) (sum_rows w seeds σ id set polys 0) (length-replicate many zeros ∙ sym (sums_number 0))
+      ext_get_or [] (replicate many zeros) (sum_rows w seeds role polys 0) (length-replicate many zeros ∙ sym (sums_number 0))
       (λ r l. let within : r < many = omega (arith, length-replicate many zeros) in
       get_or-replicate many r zeros [] within ∙ sym (sum_at 0 r within ∙ nobody_row r h))
 
-  same_row : (sent other r : ℕ) → members sent ≡ members other → sum_row w seeds σ id set polys sent r ≡ sum_row w seeds σ id set polys other r
+  same_row : (sent other r : ℕ) → members sent ≡ members other → sum_row w seeds role polys sent r ≡ sum_row w seeds role polys other r
   unfolding sum_row
   same_row sent other r e = rw e refl
 
   -- those of the same parties are the same
-  pub same_sums : (sent other : ℕ) → ((p : ℕ) → has sent p ≡ has other p) → sum_rows w seeds σ id set polys sent ≡ sum_rows w seeds σ id set polys other
+  pub same_sums : (sent other : ℕ) → ((p : ℕ) → has sent p ≡ has other p) → sum_rows w seeds role polys sent ≡ sum_rows w seeds role polys other
   same_sums sent other h =
-      ext_get_or [] (sum_rows w seeds σ id set polys sent) (sum_rows w seeds σ id set polys other) (sums_number sent ∙ sym (sums_number other))
-      (λ r l. let within : r < rows_of σ (gadget_rows w) = omega (arith, sums_number sent) in
+      ext_get_or [] (sum_rows w seeds role polys sent) (sum_rows w seeds role polys other) (sums_number sent ∙ sym (sums_number other))
+      (λ r l. let within : r < rows_of role.signature (gadget_rows w) = omega (arith, sums_number sent) in
       sum_at sent r within ∙ same_row sent other r (members_agree sent other h) ∙ sym (sum_at other r within))
 
   more_row : (sent p r : ℕ) → 0 < w.numbers.q → 1 ≤ p → p ≤ 32 → has sent p ≡ false
-      → ring_sum w.numbers.q w.numbers.n (sum_row w seeds σ id set polys sent r) (slice_index_or (share_rows w seeds σ id set polys p) r []) ≡ sum_row w seeds σ id set polys (with_party sent p) r
+      → ring_sum w.numbers.q w.numbers.n (sum_row w seeds role polys sent r) (slice_index_or (share_rows w seeds role polys p) r []) ≡ sum_row w seeds role polys (with_party sent p) r
   unfolding sum_row
   more_row sent p r h first last none =
-      let q = w.numbers.q in let n = w.numbers.n in let g = share_row w seeds σ id set polys r in
+      let q = w.numbers.q in let n = w.numbers.n in let g = share_row w seeds role polys r in
       let one = one_more_member sent p first last none in
       sym (one_total q n g p (members sent))
       ∙ total_permutation q n (map g (members (with_party sent p))) (map g (p ∷ members sent)) h (IsPermutation-map g (members (with_party sent p)) (p ∷ members sent) one)
@@ -149,14 +149,14 @@ module _ (w : Setting) (seeds : List (List ℕ)) (σ : Signature) (id set : ℕ)
 
   -- the share of one more party makes them those of one more party
   pub more_sums : (sent p : ℕ) → 0 < w.numbers.q → 1 ≤ p → p ≤ 32 → has sent p ≡ false
-      → rows_sum w.numbers.q w.numbers.n (sum_rows w seeds σ id set polys sent) (share_rows w seeds σ id set polys p) ≡ sum_rows w seeds σ id set polys (with_party sent p)
+      → rows_sum w.numbers.q w.numbers.n (sum_rows w seeds role polys sent) (share_rows w seeds role polys p) ≡ sum_rows w seeds role polys (with_party sent p)
   more_sums sent p h first last none =
       let q = w.numbers.q in let n = w.numbers.n in
-      let was = sum_rows w seeds σ id set polys sent in
-      let share = share_rows w seeds σ id set polys p in
-      ext_get_or [] (rows_sum q n was share) (sum_rows w seeds σ id set polys (with_party sent p)) (rows_sum-number q n was share ∙ sums_number sent ∙ sym (sums_number (with_party sent p)))
+      let was = sum_rows w seeds role polys sent in
+      let share = share_rows w seeds role polys p in
+      ext_get_or [] (rows_sum q n was share) (sum_rows w seeds role polys (with_party sent p)) (rows_sum-number q n was share ∙ sums_number sent ∙ sym (sums_number (with_party sent p)))
       (λ r l.
-      let within : r < rows_of σ (gadget_rows w) = omega (arith, rows_sum-number q n was share, sums_number sent) in
+      let within : r < rows_of role.signature (gadget_rows w) = omega (arith, rows_sum-number q n was share, sums_number sent) in
       rows_sum-at was share r (omega (arith, sums_number sent))
       ∙ ap (λ (z : List ℕ). ring_sum q n z (get_or share r [])) (sum_at sent r within)
       ∙ more_row sent p r h first last none

@@ -12,7 +12,7 @@ use Rattle.session_rules.specs.States.{State}
 use Rattle.session_rules.specs.Facts.{IsLive, IsSameLater}
 use Rattle.session_rules.proofs.Marks.{Lacks, lacks_is, lacks_from}
 use Rattle.session_spec.specs.Settings.{Setting, gadget_rows}
-use Rattle.session_spec.specs.Outputs.{key_in, input_of, share_of}
+use Rattle.session_spec.specs.Outputs.{keys_in, input_of, share_of}
 use Rattle.session_spec.specs.Honesty.{BringsShare}
 use Rattle.session_laws.specs.Constancy.{LeadsOn}
 use Rattle.session_laws.specs.Turns.{ContentStandsOn}
@@ -33,11 +33,11 @@ lacked p i now same l = record {
 -- an instance that lives has the same shares later
 same_share : (w : Setting) (seeds : List (List ℕ)) (s t : State) → LeadsOn w s t → (id p : ℕ) (i now : Instance)
     → instance s.instances id ≡ Some i → IsLive i → instance t.instances id ≡ Some now
-    → share_of w seeds (key_in w seeds s.instances) i p ≡ share_of w seeds (key_in w seeds t.instances) now p
+    → share_of w seeds (keys_in w seeds s.instances) i p ≡ share_of w seeds (keys_in w seeds t.instances) now p
 same_share w seeds s t y id p i now issued alive there =
     let stays = issued_ones_stay w seeds s t id i y issued alive in
     let it : stays.0 ≡ now = let both : Some stays.0 ≡ Some now = sym stays.1 ∙ there in cc in
-    subst (λ (z : Instance). share_of w seeds (key_in w seeds s.instances) i p ≡ share_of w seeds (key_in w seeds t.instances) z p) it (stays.2.shares p)
+    subst (λ (z : Instance). share_of w seeds (keys_in w seeds s.instances) i p ≡ share_of w seeds (keys_in w seeds t.instances) z p) it (stays.2.shares p)
 
 share_stands : (w : Setting) (seeds : List (List ℕ)) (s t : State) → LeadsOn w s t → (id p : ℕ) (rows : List (List ℕ)) (i : Instance)
     → instance s.instances id ≡ Some i → BringsShare w seeds s id p rows → BringsShare w seeds t id p rows

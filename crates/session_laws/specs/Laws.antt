@@ -29,7 +29,7 @@ pub record IsSessionKey (w : Setting) (seeds : List Seed) (key : Key) : Type 0 w
   pub role : Role
   pub signature : role.signature ≡ Pk
   pub parties : count role.set.bits ≡ w.numbers.threshold
-  pub key : key ≡ key_of w seeds role
+  pub made : key ≡ key_of w seeds role
 
 abbrev pub Serves : Setting → List Seed → ℕ → Key → Type 0
 Serves w seeds c key = (input_count w c ≡ 0) ⊎ IsSessionKey w seeds key
