@@ -20,12 +20,12 @@ use Rattle.session_rules.specs.Facts.{Kept, IsLater}
 use Rattle.session_rules.specs.Allowed.{Allows}
 use Rattle.session_rules.proofs.Judged.{judged}
 use Rattle.session_rules.proofs.Marks.{Lacks, lacks_from}
-use Rattle.session_rules.proofs.Keeps.{Waits, waits, turned, deed_next, issue_next}
+use Rattle.session_rules.proofs.Keeps.{waits, turned, deed_next, issue_next}
 use Rattle.session_rules.proofs.Grounds.{deed_well}
-use Rattle.session_spec.specs.Settings.{Setting, rules, gadget_rows, IsSetting}
-use Rattle.session_spec.specs.Outputs.{key_in, input_of, output_of, share_of}
+use Rattle.session_spec.specs.Settings.{Setting, rules, IsSetting}
+use Rattle.session_spec.specs.Outputs.{key_in, keys_in, input_of, output_of, share_of}
 use Rattle.session_spec.specs.Stores.{Store, Brought, share_brought, cipher_brought, grown, with_input, with_output, with_turn, with_deed, store_done}
-use Rattle.session_spec.specs.Honesty.{IsHonest, BringsShare, BringsInput, BringsOutput, Brings}
+use Rattle.session_spec.specs.Honesty.{IsHonest, BringsShare, Brings}
 use Rattle.session_laws.specs.Laws.{AnswersArePlain, Stands, CallsKeepHonest, SharesAreBrought, InputsAreBrought, OutputsAreBrought}
 use Rattle.session_laws.proofs.Plans.{rules_rows}
 use Rattle.session_laws.proofs.Keys.{Keyed, keyed}
@@ -97,7 +97,7 @@ share_is_brought w seeds s id party rows r (Counts i q) k brings a =
     let its = waits (rules w) s (call.Deliver id party (length rows)) r i q k a in
     let issued = subst (λ (z : ℕ). instance s.instances z ≡ Some i) id_ a.part.issued in
     let awaited = lacks_from party i (subst (λ (z : ℕ). Lacks z i) party_ (record { opened = its.opened; member = its.member; unsent = its.unsent })) in
-    brings i issued awaited (rows_ ∙ ap (rows_of i.signature) (rules_rows w)) ∙ ap (share_of w seeds (key_in w seeds s.instances) i) (sym party_)
+    brings i issued awaited (rows_ ∙ ap (rows_of i.signature) (rules_rows w)) ∙ ap (share_of w seeds (keys_in w seeds s.instances) i) (sym party_)
 share_is_brought w seeds s id party rows r (Gives d j) k brings a = let e = a.call in cc
 share_is_brought w seeds s id party rows r (Turns d (Refused place bound limit)) k brings a = tt
 share_is_brought w seeds s id party rows r (Turns d Idle) k brings a = tt
@@ -131,7 +131,7 @@ pub inputs_are_brought : InputsAreBrought
 unfolding judge
 inputs_are_brought w seeds s c k ct brings = let v = input (rules w) s c k in input_is_brought w seeds s c k ct v.reply v.deed brings (judged (rules w) s 0 (call.Input c k))
 
-output_is_brought : (w : Setting) (seeds : List (List ℕ)) (s : State) (who c : ℕ) (ct : Cipher) (r : Reply) (d : Deed) → (r ≡ reply.Finished → ct ≡ output_of w seeds (key_in w seeds s.instances) c)
+output_is_brought : (w : Setting) (seeds : List (List ℕ)) (s : State) (who c : ℕ) (ct : Cipher) (r : Reply) (d : Deed) → (r ≡ reply.Finished → ct ≡ output_of w seeds (keys_in w seeds s.instances c) c)
     → Allows (rules w) s who (call.Finish c) r d → Brings w seeds s d (cipher_brought ct)
 output_is_brought w seeds s who c ct r Nothing brings a = tt
 output_is_brought w seeds s who c ct r (Joins q) brings a = tt
@@ -144,7 +144,7 @@ output_is_brought w seeds s who c ct r (Turns d (Taken its)) brings a = tt
 output_is_brought w seeds s who c ct r (Turns d Evaluated) brings a =
     let e : call.Finish c ≡ call.Finish d = a.call in
     let c_ : c ≡ d = cc in
-    brings a.reply ∙ ap (output_of w seeds (key_in w seeds s.instances)) c_
+    brings a.reply ∙ ap (λ (z : ℕ). output_of w seeds (keys_in w seeds s.instances z) z) c_
 output_is_brought w seeds s who c ct r (Turns d Answered) brings a = tt
 
 pub outputs_are_brought : OutputsAreBrought

@@ -1,5 +1,5 @@
 -- Lists of rows of which one entry is set, and the rows of a store's inputs.
-use Rattle.std.proofs.Common.{◌≡◌, ◌≢◌, ◌∙◌, sym, ap, refl, ℕ, ◌<◌, List, [], length, get_or, set, Option, arith}
+use Rattle.std.proofs.Common.{◌≡◌, ◌≢◌, ◌∙◌, sym, ap, ℕ, ◌<◌, List, [], length, get_or, set, Option, arith}
 use Rattle.std.proofs.lemmas.List.{get_or-map, get_or-set_same, get_or-set_other, length-map}
 use Rattle.ring_spec.specs.Pairs.{Cipher}
 use Rattle.session_rules.specs.States.{State}

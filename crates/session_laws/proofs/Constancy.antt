@@ -1,5 +1,5 @@
 -- What is defined for a circuit or an instance is the same in every longer history.
-use Rattle.std.proofs.Common.{◌≡◌, ◌∙◌, sym, ap, subst, refl, ℕ, ◌-◌, ◌<◌, Bool, true, false, inl, inr, List, cond, length, get_or, Some, None, arith}
+use Rattle.std.proofs.Common.{◌≡◌, ◌∙◌, ap, subst, ℕ, ◌-◌, ◌<◌, Bool, true, false, List, cond, length, get_or, Some, None, arith}
 use Rattle.std.specs.Prelude.{nat_eq}
 use Rattle.std.specs.List.{slice_get}
 use Rattle.std.proofs.lemmas.Option.{slice_get-get_or, get_or_from_slice_get, slice_get_within}
@@ -7,8 +7,6 @@ use Rattle.ring_spec.specs.Pairs.{Key}
 use Rattle.cipher_spec.specs.Keys.{Keys}
 use Rattle.proto_names.specs.Roles.{Role, role_of}
 use Rattle.proto_names.specs.Instances.{instance}
-use Rattle.proto_names.specs.declared.signature.Signature.{Signature}
-use Rattle.proto_names.specs.declared.sets.PartySet.{PartySet}
 use Rattle.proto_names.specs.declared.instance.Instance.{Instance}
 use Rattle.session_rules.specs.States.{State}
 use Rattle.session_rules.specs.Facts.{IsSameLater, IsLater}
@@ -18,7 +16,7 @@ use Rattle.session_rules.proofs.Grounds.{histories_ground}
 use Rattle.session_rules.proofs.Runs.{later_ones_follow}
 use Rattle.session_spec.specs.Settings.{Setting, rules}
 use Rattle.session_spec.specs.Shares.{share_rows}
-use Rattle.session_spec.specs.Outputs.{key_in, keys_in, input_of, polys_of, share_of}
+use Rattle.session_spec.specs.Outputs.{keys_in, input_of, polys_of, share_of}
 use Rattle.session_laws.specs.Constancy.{HistoriesLeadOn, KeyStays, InputsStay, ReadyOnesStay, IssuedOnesStay}
 use Rattle.session_laws.proofs.Beginnings.{rules_whole}
 use Rattle.session_laws.proofs.Keys.{same_role, key_stays, circuit_stays, given_keyed, keyed, polys_stay}

@@ -1,8 +1,8 @@
 -- What deeds make of an honest store, before anything is issued.
-use Rattle.std.proofs.Common.{◌≡◌, ◌≢◌, ◌∙◌, sym, ap, subst, refl, ℕ, ◌-◌, ◌<◌, Bool, true, false, cond, inl, inr, List, [], ◌∷◌, length, map, set, get_or, Contains, Option, Some, None, arith, length-set}
-use Rattle.std.specs.Prelude.{nat_lt, ◌&&◌}
+use Rattle.std.proofs.Common.{◌≡◌, ◌∙◌, sym, ap, subst, refl, ℕ, ◌-◌, ◌<◌, Bool, true, false, cond, inl, inr, List, [], ◌∷◌, length, get_or, Contains, Option, Some, None, arith, length-set}
+use Rattle.std.specs.Prelude.{nat_lt}
 use Rattle.std.proofs.lemmas.Bool.{both_ways, cases_eq, cases_lt, and_parts, eqb-true, ltb-true}
-use Rattle.std.proofs.lemmas.List.{get_or_past, get_or-set_same, get_or-set_other, length-map}
+use Rattle.std.proofs.lemmas.List.{get_or-set_same, get_or-set_other, length-map}
 use Rattle.ring_spec.specs.Pairs.{Cipher, Key}
 use Rattle.param_set.specs.declared.params.Params.{Params}
 use Rattle.share_spec.specs.Sets.{has}
@@ -11,7 +11,6 @@ use Rattle.proto_names.specs.Names.{is_void}
 use Rattle.proto_names.specs.Roles.{role_of}
 use Rattle.proto_names.specs.Groups.{with_party, number_outside}
 use Rattle.proto_names.specs.Instances.{missing, after_share}
-use Rattle.proto_names.specs.declared.signature.Signature.{Signature}
 use Rattle.proto_names.specs.declared.signature.Signature.TheVariants.{Dec}
 use Rattle.proto_names.specs.declared.instance.Instance.{Instance}
 use Rattle.instance_table.specs.Tables.{after_rows}
@@ -19,7 +18,7 @@ use Rattle.session_rules.specs.declared.deed.Deed.TheVariants.{Joins, Loses, Cou
 use Rattle.session_rules.specs.declared.state.CircuitState.{CircuitState}
 use Rattle.session_rules.specs.declared.state.CircuitState.TheVariants.{Evaluated, Answered}
 use Rattle.session_rules.specs.States.{State, plan, circuit, is_given, is_admitted}
-use Rattle.session_rules.specs.Deeds.{fallen, falls, after_loss, is_last, answered_by, with_input, changed}
+use Rattle.session_rules.specs.Deeds.{fallen, falls, after_loss, is_last, answered_by, changed}
 use Rattle.session_rules.specs.Steps.{is_input}
 use Rattle.session_rules.specs.Facts.{IsLive, Kept, IsLater, IsSound, is_settled}
 use Rattle.session_rules.proofs.Contained.{contains_map_from}
@@ -33,7 +32,7 @@ use Rattle.session_spec.specs.Outputs.{key_in, keys_in, input_of, output_of, tol
 use Rattle.session_spec.specs.Stores.{Store, held_sums, held_input, held_output, held_answer, with_rows, with_answer, with_output}
 use Rattle.session_spec.specs.Stores as stores
 use Rattle.session_laws.specs.Laws.{AnswersArePlain, Stands}
-use Rattle.session_laws.proofs.Plans.{rules_number, rules_threshold, circuits_number, plan_inputs, no_inputs_past, settled_begun}
+use Rattle.session_laws.proofs.Plans.{rules_number, rules_threshold, plan_inputs, no_inputs_past, settled_begun}
 use Rattle.session_laws.proofs.Keys.{Keyed, keyed, key_stays, output_stays, polys_stay}
 use Rattle.session_laws.proofs.Totals.{all_sent, same_sums}
 use Rattle.session_laws.proofs.Holding.{Holds, holds_from, sums_stay, told_at}

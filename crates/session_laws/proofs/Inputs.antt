@@ -1,5 +1,5 @@
 -- A circuit that is ready has its inputs.
-use Rattle.std.proofs.Common.{◌≡◌, ◌∙◌, sym, ap, ℕ, ◌<◌, true, List, [], length, map, get_or, slice_index_or, Option, arith}
+use Rattle.std.proofs.Common.{◌≡◌, ◌∙◌, sym, ap, ◌<◌, true, [], length, map, get_or, slice_index_or, Option, arith}
 use Rattle.std.specs.Prelude.{None}
 use Rattle.std.proofs.lemmas.List.{ext_get_or, get_or-map, length-map}
 use Rattle.std.proofs.lemmas.List.FromFn.{get_or-map-range_with_len, length-map-range_with_len}
@@ -7,7 +7,7 @@ use Rattle.ring_spec.specs.Pairs.{Cipher}
 use Rattle.cipher_spec.specs.Ciphers.{no_cipher}
 use Rattle.session_rules.specs.States.{is_given}
 use Rattle.session_rules.proofs.Readiness.{all_at, ready_is}
-use Rattle.session_spec.specs.Settings.{Setting, rules, input_count}
+use Rattle.session_spec.specs.Settings.{rules, input_count}
 use Rattle.session_spec.specs.Outputs.{key_in, input_of, inputs_of}
 use Rattle.session_spec.specs.Stores.{cipher_or}
 use Rattle.session_laws.specs.Laws.{ReadyOnesHaveInputs}
