@@ -13,6 +13,7 @@ use Rattle.share_spec.specs.Sets.{members, count}
 use Rattle.share_spec.specs.Dealing.{parts as parts_by}
 use Rattle.share_spec.specs.Seeds.{secret, part as part_dealt, parts as parts_dealt}
 use Rattle.share_laws.proofs.Seeds.{parts_sum}
+use Rattle.proto_names.specs.Roles.{Role}
 use Rattle.session_spec.specs.Settings.{Setting, Offer}
 use Rattle.session_spec.specs.Shares.{part_of}
 
@@ -61,9 +62,9 @@ noises_count part noise js = ap length (noises_acting part noise js) ∙ length-
 -- ---- the members of a set
 
 -- the parts of as many members as the threshold sum to the secret, whatever their noises
-pub acting_sum : (p : Params) (public : List ℕ) (offers : List Offer) (seeds : List (List ℕ)) (set : ℕ) (noise : ℕ → List ℕ) → count set ≡ p.threshold →
-    ring_total p.q p.n (parts (acting (part_of (setting_of p public offers) seeds set) noise (members set))) ≡ secret p.q p.n seeds
+pub acting_sum : (p : Params) (public : List ℕ) (offers : List Offer) (seeds : List (List ℕ)) (role : Role) (noise : ℕ → List ℕ) → count role.set.bits ≡ p.threshold →
+    ring_total p.q p.n (parts (acting (part_of (setting_of p public offers) seeds role) noise (members role.set.bits))) ≡ secret p.q p.n seeds
 unfolding parts_dealt parts_by part_dealt
-acting_sum p public offers seeds set noise many =
-    ap (ring_total p.q p.n) (parts_acting (part_of (setting_of p public offers) seeds set) noise (members set))
-    ∙ parts_sum p.q p.n p.threshold seeds set (omega arith) p.no_small_factor (omega arith) (omega arith)
+acting_sum p public offers seeds role noise many =
+    ap (ring_total p.q p.n) (parts_acting (part_of (setting_of p public offers) seeds role) noise (members role.set.bits))
+    ∙ parts_sum p.q p.n p.threshold seeds role.set.bits (omega arith) p.no_small_factor (omega arith) (omega arith)

@@ -13,8 +13,7 @@ use Rattle.draw_spec.specs.Streams.{input_stream}
 use Rattle.bfv_spec.specs.Scheme.{delta, encryption, Carries, IsPublicKey}
 use Rattle.bfv_spec.specs.Drawn.{ternary_poly, small_poly, drawn_encryption}
 use Rattle.bfv_laws.proofs.Noise.{drawn_carries}
-use Rattle.share_spec.specs.Sets.{count}
-use Rattle.share_spec.specs.Seeds.{secret}
+use Rattle.share_spec.specs.Seeds.{seed_in, secret}
 use Rattle.share_laws.proofs.Seeds.{secret_is, secret_small}
 use Rattle.circuit_form.specs.declared.node.Node.{Node}
 use Rattle.noise_ledger.specs.declared.over.Place.{Place}
@@ -26,10 +25,9 @@ use Rattle.circuit_laws.specs.Carrying.{AreInputs}
 use Rattle.session_rules.specs.declared.fixed.Plan.{Plan}
 use Rattle.session_rules.specs.States.{is_refused, is_admitted, plan, no_plan}
 use Rattle.session_rules.specs.Fixing.{begins_as, plan_of, fixed_from}
-use Rattle.session_spec.specs.Settings.{Offer, rules, nodes_of, nodes_at, no_offer, values_at, value_at, owner_at, seed_at, input_count, Tells}
-use Rattle.session_spec.specs.Shares.{key_of}
+use Rattle.session_spec.specs.Settings.{Offer, rules, nodes_of, nodes_at, no_offer, values_at, value_at, owner_at, input_count, Tells}
 use Rattle.session_spec.specs.Outputs.{input_of, inputs_of}
-use Rattle.session_spec.specs.Laws.{Serves}
+use Rattle.session_laws.specs.Laws.{IsSessionKey, Serves}
 use Rattle.answer_laws.proofs.Acting.{setting_of}
 use Rattle.answer_laws.proofs.Keys.{key_is}
 
@@ -72,15 +70,15 @@ drawn_fits q n t b key m seed stream k h =
     }
 
 -- input k under a key that belongs to the secret
-input_carries : (p : Params) (public : List ℕ) (offers : List Offer) (seeds : List (List ℕ)) (c k id set : ℕ) (key : Key) → length seeds ≡ p.parties →
-    count set ≡ p.threshold → key ≡ key_of (setting_of p public offers) seeds id set →
+input_carries : (p : Params) (public : List ℕ) (offers : List Offer) (seeds : List (List ℕ)) (c k : ℕ) (key : Key) → length seeds ≡ p.parties →
+    IsSessionKey (setting_of p public offers) seeds key →
     Carries p.q p.n p.t (secret p.q p.n seeds) (input_bound (numbers_of p)) (input_of (setting_of p public offers) seeds key c k) (value_at (setting_of p public offers) c k)
 unfolding input_of input_bound
-input_carries p public offers seeds c k id set key all many e =
+input_carries p public offers seeds c k key all y =
     let w = setting_of p public offers in
-    drawn_carries p.q p.n p.t p.threshold p.err p.parties key (value_at w c k) (secret p.q p.n seeds) (seed_at seeds (owner_at w c k)) (input_stream c k) 0
+    drawn_carries p.q p.n p.t p.threshold p.err p.parties key (value_at w c k) (secret p.q p.n seeds) (seed_in seeds (owner_at w c k)) (input_stream c k) 0
     (omega arith) (secret_is p.q p.n seeds (omega arith))
-    (subst (λ (z : Key). IsPublicKey p.q p.n (secret p.q p.n seeds) (p.threshold * p.err) z) (sym e) (key_is p public offers seeds id set many))
+    (subst (λ (z : Key). IsPublicKey p.q p.n (secret p.q p.n seeds) (p.threshold * p.err) z) (sym y.made) (key_is p public offers seeds y.role y.signature y.parties))
     (omega (arith, secret_small p.q p.n seeds (omega arith)))
 
 -- so does each where the key serves the circuit: one of no input has none
@@ -88,11 +86,11 @@ served : (p : Params) (public : List ℕ) (offers : List Offer) (seeds : List (L
     Serves (setting_of p public offers) seeds c key → k < input_count (setting_of p public offers) c →
     Carries p.q p.n p.t (secret p.q p.n seeds) (input_bound (numbers_of p)) (input_of (setting_of p public offers) seeds key c k) (value_at (setting_of p public offers) c k)
 served p public offers seeds c k key all (inl none) l = absurd (omega arith)
-served p public offers seeds c k key all (inr (id, set, many, e)) l = input_carries p public offers seeds c k id set key all many e
+served p public offers seeds c k key all (inr y) l = input_carries p public offers seeds c k key all y
 
 pub are_inputs : (p : Params) (public : List ℕ) (offers : List Offer) (seeds : List (List ℕ)) (c : ℕ) (key : Key) → length seeds ≡ p.parties → c < length offers →
     Tells p (slice_index_or offers c no_offer) → Serves (setting_of p public offers) seeds c key →
-    AreInputs p (secret p.q p.n seeds) (nodes_at (setting_of p public offers) c) (values_at (setting_of p public offers) c) (inputs_of (setting_of p public offers) seeds key c)
+    AreInputs p p.threshold (secret p.q p.n seeds) (nodes_at (setting_of p public offers) c) (values_at (setting_of p public offers) c) (inputs_of (setting_of p public offers) seeds key c)
 unfolding input_of
 are_inputs p public offers seeds c key all l tells serves =
     let w = setting_of p public offers in
@@ -104,7 +102,7 @@ are_inputs p public offers seeds c key all l tells serves =
       polys = ap length told ∙ tells.number;
       fit = All-map (CipherFits p.q p.n) (input_of w seeds key c) (range_with_len 0 many)
           (λ i d r. let k = get_or (range_with_len 0 many) i d in
-          drawn_fits p.q p.n p.t p.err key (value_at w c k) (seed_at seeds (owner_at w c k)) (input_stream c k) 0 (omega arith));
+          drawn_fits p.q p.n p.t p.err key (value_at w c k) (seed_in seeds (owner_at w c k)) (input_stream c k) 0 (omega arith));
       plain = subst (All (IsPoly p.t p.n)) (sym told) tells.plain;
       carry = λ k r.
           subst (λ (z : Cipher). Carries p.q p.n p.t s (input_bound (numbers_of p)) z (value_at w c k))

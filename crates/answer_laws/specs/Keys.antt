@@ -1,10 +1,13 @@
 -- The public key of a session belongs to the secret that its parties hold.
-use Rattle.std.specs.Prelude.{◌≡◌, ℕ, ◌*◌, List, Some}
+use Rattle.std.specs.Prelude.{◌≡◌, ◌*◌, List, Some}
+use Rattle.draw_spec.specs.Places.{Seed}
 use Rattle.bfv_spec.specs.Scheme.{IsPublicKey}
 use Rattle.param_set.specs.declared.params.Params.{Params}
 use Rattle.param_set.specs.Numbers.{numbers_of}
 use Rattle.share_spec.specs.Sets.{count}
 use Rattle.share_spec.specs.Seeds.{secret}
+use Rattle.proto_names.specs.Roles.{Role}
+use Rattle.proto_names.specs.declared.signature.Signature.TheVariants.{Pk}
 use Rattle.proto_names.specs.declared.instance.Instance.{Instance}
 use Rattle.session_rules.specs.States.{State}
 use Rattle.session_rules.specs.Facts.{Kept}
@@ -12,15 +15,17 @@ use Rattle.session_spec.specs.Settings.{Setting, rules}
 use Rattle.session_spec.specs.Shares.{key_of}
 use Rattle.session_spec.specs.Outputs.{key_instance, key_in}
 
--- the key that the complete sums of as many honest shares as the threshold make: p0 + p1 * s is a noise of size at
--- most T * B, s being the sum of all parties' secrets
+-- the public key that the complete sums of as many honest shares as the threshold make: p0 + p1 * s is a noise of size
+-- at most T * B, s being the sum of all parties' secrets
 abbrev pub KeysBelong : Type 0
 KeysBelong =
-    (p : Params) (w : Setting) (seeds : List (List ℕ)) (id set : ℕ) → w.numbers ≡ numbers_of p → count set ≡ p.threshold
-    → IsPublicKey p.q p.n (secret p.q p.n seeds) (p.threshold * p.err) (key_of w seeds id set)
+    (p : Params) (w : Setting) (seeds : List Seed) (role : Role)
+    → w.numbers ≡ numbers_of p → role.signature ≡ Pk → count role.set.bits ≡ p.threshold
+    → IsPublicKey p.q p.n (secret p.q p.n seeds) (p.threshold * p.err) (key_of w seeds role)
 
 -- so is the key of a state that has one
 abbrev pub HeldKeysBelong : Type 0
 HeldKeysBelong =
-    (p : Params) (w : Setting) (seeds : List (List ℕ)) (s : State) (i : Instance) → w.numbers ≡ numbers_of p → Kept (rules w) s
-    → key_instance s.instances ≡ Some i → IsPublicKey p.q p.n (secret p.q p.n seeds) (p.threshold * p.err) (key_in w seeds s.instances)
+    (p : Params) (w : Setting) (seeds : List Seed) (s : State) (i : Instance)
+    → w.numbers ≡ numbers_of p → Kept (rules w) s → key_instance s.instances ≡ Some i
+    → IsPublicKey p.q p.n (secret p.q p.n seeds) (p.threshold * p.err) (key_in w seeds s.instances)

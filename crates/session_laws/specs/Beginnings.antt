@@ -8,5 +8,6 @@ use Rattle.session_laws.specs.Laws.{Stands}
 
 abbrev pub OpeningStands : Type 0
 OpeningStands =
-    (p : Params) (w : Setting) (seeds : List (List ℕ)) → IsSetting p w → HasValues p w → NeedsNoSwitch w → length seeds ≡ p.parties
+    (p : Params) (w : Setting) (seeds : List (List ℕ))
+    → IsSetting p w → HasValues p w → NeedsNoSwitch w → length seeds ≡ p.parties
     → Stands p w seeds (opening (rules w)) (empty w)

@@ -24,7 +24,8 @@ pub record LeadsOn (w : Setting) (s t : State) : Type 0 where
 
 -- such are the states after a history and after a longer one
 abbrev pub HistoriesLeadOn : Type 0
-HistoriesLeadOn = (w : Setting) (es more : List Entry) → LeadsOn w (state_after (rules w) es) (state_after (rules w) (es ++ more))
+HistoriesLeadOn =
+    (w : Setting) (es more : List Entry) → LeadsOn w (state_after (rules w) es) (state_after (rules w) (es ++ more))
 
 -- a public key that is complete is the same later
 abbrev pub KeyStays : Type 0
@@ -61,5 +62,7 @@ pub record IsSameInstance (w : Setting) (seeds : List Seed) (keys now : ℕ → 
 -- an instance that is opened or complete has the same ones later under its number, also where it is void by then
 abbrev pub IssuedOnesStay : Type 0
 IssuedOnesStay =
-    (w : Setting) (seeds : List Seed) (s t : State) (id : ℕ) (i : Instance) → LeadsOn w s t → instance s.instances id ≡ Some i → IsLive i
-    → (now : Instance) × (instance t.instances id ≡ Some now) × IsSameInstance w seeds (keys_in w seeds s.instances) (keys_in w seeds t.instances) i now
+    (w : Setting) (seeds : List Seed) (s t : State) (id : ℕ) (i : Instance)
+    → LeadsOn w s t → instance s.instances id ≡ Some i → IsLive i
+    → (now : Instance) × (instance t.instances id ≡ Some now)
+    × IsSameInstance w seeds (keys_in w seeds s.instances) (keys_in w seeds t.instances) i now

@@ -43,9 +43,10 @@ pub record IsDecryption (w : Setting) (c : ℕ) (role : Role) : Type 0 where
 abbrev pub AnswersArePlain : Type 0
 AnswersArePlain =
     (p : Params) (w : Setting) (seeds : List Seed) (c : ℕ) (role : Role) (keys : Keys)
-    → IsSetting p w → HasValues p w → NeedsNoSwitch w → length seeds ≡ p.parties → c < length w.offers → is_admitted (plan (rules w) c) ≡ true
-    → IsDecryption w c role → Serves w seeds c keys.public
-    → decryption p.q p.t (ring_sum p.q p.n (output_of w seeds keys c).c0 (slice_index_or (full_sums w seeds role ((output_of w seeds keys c).c1 ∷ [])) 0 []))
+    → IsSetting p w → HasValues p w → NeedsNoSwitch w → length seeds ≡ p.parties → c < length w.offers
+    → is_admitted (plan (rules w) c) ≡ true → IsDecryption w c role → Serves w seeds c keys.public
+    → decryption p.q p.t (ring_sum p.q p.n (output_of w seeds keys c).c0
+    (slice_index_or (full_sums w seeds role ((output_of w seeds keys c).c1 ∷ [])) 0 []))
     ≡ plain_at w c
 
 -- what stands before a call: a setting with its values whose circuits need no key switch, a state that calls lead to,
@@ -68,14 +69,16 @@ OpeningIsHonest = (w : Setting) (seeds : List Seed) → IsHonest w seeds (openin
 -- whatever is called, where what is brought to the deed is honest
 abbrev pub CallsKeepHonest : Type 0
 CallsKeepHonest =
-    (p : Params) (w : Setting) (seeds : List Seed) (s : State) (h : Store) (caller : ℕ) (c : Call) (b : Brought) → Stands p w seeds s h
-    → Brings w seeds s (judge (rules w) s caller c).deed b
-    → IsHonest w seeds (step (rules w) s caller c).1 (store_done w (judge (rules w) s caller c).deed b (step (rules w) s caller c).1.instances h)
+    (p : Params) (w : Setting) (seeds : List Seed) (s : State) (h : Store) (caller : ℕ) (c : Call) (b : Brought)
+    → Stands p w seeds s h → Brings w seeds s (judge (rules w) s caller c).deed b
+    → IsHonest w seeds (step (rules w) s caller c).1
+    (store_done w (judge (rules w) s caller c).deed b (step (rules w) s caller c).1.instances h)
 
 -- a share, an input and an output as calls bring them are so
 abbrev pub SharesAreBrought : Type 0
 SharesAreBrought =
-    (w : Setting) (seeds : List Seed) (s : State) (id party : ℕ) (rows : List (List ℕ)) → Kept (rules w) s → BringsShare w seeds s id party rows
+    (w : Setting) (seeds : List Seed) (s : State) (id party : ℕ) (rows : List (List ℕ))
+    → Kept (rules w) s → BringsShare w seeds s id party rows
     → Brings w seeds s (deliver (rules w) s id party (length rows)).deed (share_brought rows)
 
 abbrev pub InputsAreBrought : Type 0
@@ -111,5 +114,6 @@ ReadyOnesHaveInputs =
 -- the output of a circuit that is begun is the same in every later state
 abbrev pub OutputsStay : Type 0
 OutputsStay =
-    (w : Setting) (seeds : List Seed) (s t : State) (c : ℕ) → Kept (rules w) s → Grounded (rules w) s → Kept (rules w) t → IsLater s t
-    → is_begun (circuit s.circuits c) ≡ true → output_of w seeds (keys_in w seeds s.instances c) c ≡ output_of w seeds (keys_in w seeds t.instances c) c
+    (w : Setting) (seeds : List Seed) (s t : State) (c : ℕ)
+    → Kept (rules w) s → Grounded (rules w) s → Kept (rules w) t → IsLater s t → is_begun (circuit s.circuits c) ≡ true
+    → output_of w seeds (keys_in w seeds s.instances c) c ≡ output_of w seeds (keys_in w seeds t.instances c) c

@@ -28,7 +28,8 @@ pub fn longer_histories()
     ensures issued { IssuedOnesStay }
 {}
 
-/// A share, an input and an output that are those of an honest party by what a caller has seen are so when its turn comes.
+/// A share, an input and an output that are those of an honest party by what a caller has seen are so when its turn
+/// comes.
 pub fn turns()
     ensures content { ContentStandsOn }
 {}
