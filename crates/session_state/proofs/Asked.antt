@@ -21,8 +21,7 @@ use Rattle.session_spec.specs.Settings.{Setting}
 use Rattle.session_spec.specs.Stores.{Store, with_rows, with_answer}
 use Rattle.session_state.specs.Standings.{rules_of}
 use Rattle.session_state.specs.declared.standing.Standing.{Standing}
-use Rattle.session_state.specs.Parts.{IsPk}
-use Rattle.session_state.specs.Completions.{IsOfOne}
+use Rattle.session_state.specs.Parts.{IsPk, IsOfOne}
 
 pub asked_one : (f : Fixed) (s : State) (i : Instance) → Grounded f s → All IsPk (keys f) → Contains s.instances i → IsOfOne i.signature
 asked_one f s i g only m = elim (g.asked i m) [

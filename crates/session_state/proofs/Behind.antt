@@ -1,5 +1,5 @@
 -- The instances that steps put behind others, and what a store has of them.
-use Rattle.std.proofs.Common.{◌≡◌, ◌∙◌, sym, ap, refl, ℕ, List, [], ◌∷◌, ◌++◌, length, map, drop, fold, Option, arith}
+use Rattle.std.proofs.Common.{◌≡◌, ◌∙◌, sym, ap, subst, refl, ℕ, List, [], ◌∷◌, ◌++◌, length, map, drop, fold, Option, arith}
 use Rattle.std.specs.Prelude.{All, replicate}
 use Rattle.std.proofs.Math.Seq.{drop-append_seam}
 use Rattle.std.proofs.lemmas.List.{append_assoc, append-nil, drop_all}
@@ -18,8 +18,8 @@ use Rattle.session_rules.specs.States.{State}
 use Rattle.session_rules.specs.Issues.{instances_after}
 use Rattle.session_spec.specs.Settings.{Setting, Offer}
 use Rattle.session_spec.specs.Stores.{Store, polys_by, polys_told as polys_for, zero_sums, grown}
-use Rattle.session_spec.specs.Laws.{Matches}
-use Rattle.session_state.specs.Parts.{polys_in}
+use Rattle.session_spec.specs.Honesty.{Matches}
+use Rattle.session_state.specs.Parts.{polys_in, IsOfOne}
 use Rattle.session_state.specs.Issuings.{move_of, polys_told, brief_of, sums_of, polys_from, polys_due, IsFresh}
 use Rattle.session_state.specs.declared.issuing.Step.{Step}
 
@@ -33,6 +33,9 @@ signature_told x = x.signature
 
 abbrev pub IsOpened : Instance → Type 0
 IsOpened i = i.stage ≡ Opened
+
+abbrev pub IsAsked : Instance → Type 0
+IsAsked i = IsOfOne i.signature
 
 pub record Behind (is : List Instance) (xs : List Step) : Type 0 where
   pub more : List Instance
@@ -55,13 +58,14 @@ behind is (x ∷ xs) =
 
 -- ---- the store
 
-polys_same : (h : Store) (outputs : List (Option Cipher)) (σ : Signature) → h.outputs ≡ outputs → polys_by h σ ≡ polys_from outputs σ
+-- what the parties of the public key or of a decryption are told
+polys_same : (h : Store) (outputs : List (Option Cipher)) (σ : Signature) (first : ℕ) → IsOfOne σ → h.outputs ≡ outputs → polys_by h σ first ≡ polys_from outputs σ
 unfolding polys_by
-polys_same h outputs Pk e = refl
-polys_same h outputs Rlk1 e = refl
-polys_same h outputs Rlk2 e = refl
-polys_same h outputs (Rot g) e = refl
-polys_same h outputs (Dec c) e = rw e refl
+polys_same h outputs Pk first one e = refl
+polys_same h outputs Rlk1 first one e = absurd one
+polys_same h outputs Rlk2 first one e = absurd one
+polys_same h outputs (Rot g) first one e = absurd one
+polys_same h outputs (Dec c) first one e = rw e refl
 
 -- what goes by signatures alone
 pub by_signatures : {X : Type 0} (f : Signature → X) (is : List Instance) (xs : List Step) → map signature_of is ≡ map signature_told xs → map (λ (i : Instance). f i.signature) is ≡ map (λ (x : Step). f x.signature) xs
@@ -73,11 +77,26 @@ by_signatures {X} f (i ∷ is) (x ∷ xs) e =
     let tail : map signature_of is ≡ map signature_told xs = cc in
     ap (λ (σ : Signature). f σ ∷ map (λ (j : Instance). f j.signature) is) head ∙ ap (λ (zs : List X). f x.signature ∷ zs) (by_signatures f is xs tail)
 
-pub due_again : (h : Store) (outputs : List (Option Cipher)) (xs : List Step) → h.outputs ≡ outputs → map (λ (x : Step). polys_by h x.signature) xs ≡ map (polys_due outputs) xs
-due_again h outputs [] e = refl
-due_again h outputs (x ∷ xs) e =
-    ap (λ (z : List (List ℕ)). z ∷ map (λ (y : Step). polys_by h y.signature) xs) (polys_same h outputs x.signature e)
-    ∙ ap (λ (zs : List (List (List ℕ))). polys_due outputs x ∷ zs) (due_again h outputs xs e)
+-- instances with the signatures of fresh steps are of the public key or decryptions
+pub asked_all : (p : Params) (is : List Instance) (xs : List Step) → map signature_of is ≡ map signature_told xs → All (IsFresh p) xs → All IsAsked is
+asked_all p [] xs e fresh = All-nil IsAsked
+asked_all p (i ∷ is) [] e fresh = cc
+asked_all p (i ∷ is) (x ∷ xs) e fresh =
+    let head : i.signature ≡ x.signature = cc in
+    let tail : map signature_of is ≡ map signature_told xs = cc in
+    All-cons IsAsked i is (subst (λ (σ : Signature). IsOfOne σ) (sym head) (All-head (IsFresh p) x xs fresh).asked) (asked_all p is xs tail (All-tail (IsFresh p) x xs fresh))
+
+-- and are told what the steps tell
+pub due_again : (h : Store) (outputs : List (Option Cipher)) (is : List Instance) (xs : List Step) → h.outputs ≡ outputs → All IsAsked is → map signature_of is ≡ map signature_told xs
+    → map (polys_for h) is ≡ map (polys_due outputs) xs
+due_again h outputs [] [] e asked same = refl
+due_again h outputs [] (x ∷ xs) e asked same = cc
+due_again h outputs (i ∷ is) [] e asked same = cc
+due_again h outputs (i ∷ is) (x ∷ xs) e asked same =
+    let head : i.signature ≡ x.signature = cc in
+    let tail : map signature_of is ≡ map signature_told xs = cc in
+    ap (λ (z : List (List ℕ)). z ∷ map (polys_for h) is) (polys_same h outputs i.signature i.round1 (All-head IsAsked i is asked) e ∙ ap (polys_from outputs) head)
+    ∙ ap (λ (zs : List (List (List ℕ))). polys_due outputs x ∷ zs) (due_again h outputs is xs e (All-tail IsAsked i is asked) tail)
 
 pub zeros_again : (p : Params) (public : List ℕ) (offers : List Offer) (xs : List Step) → All (IsFresh p) xs
     → map (λ (x : Step). replicate (rows_of x.signature (digit_rows p.q p.digit_bits)) (replicate p.n 0)) xs ≡ map sums_of xs

@@ -26,7 +26,7 @@ use Rattle.session_rules.proofs.Later.{later_lives}
 use Rattle.session_rules.proofs.Marks.{IsDone, lacks_from, instance_within, one_number, numbered_at}
 use Rattle.session_rules.specs.Fixing.{fixed_from}
 use Rattle.session_spec.specs.Settings.{Setting, rules}
-use Rattle.session_spec.specs.Laws.{Matches}
+use Rattle.session_spec.specs.Honesty.{Matches}
 use Rattle.session_spec.specs.Stores.{Store, held_key}
 use Rattle.session_state.specs.Parts.{AreTold, Holds}
 use Rattle.session_state.specs.Standings.{rules_of}

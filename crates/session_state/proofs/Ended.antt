@@ -11,7 +11,7 @@ use Rattle.session_rules.specs.Deeds.{with_circuit}
 use Rattle.session_rules.specs.Facts.{is_settled}
 use Rattle.session_spec.specs.Settings.{Setting}
 use Rattle.session_spec.specs.Stores.{Store, held_output, held_key, with_output}
-use Rattle.session_spec.specs.Laws.{Matches}
+use Rattle.session_spec.specs.Honesty.{Matches}
 use Rattle.session_state.specs.Parts.{HasCipher, Holds}
 
 pub ended_matches : (w : Setting) (s : State) (h : Store) (c : ℕ) (ct : Cipher) → Matches w s h → Matches w (with_circuit s c Evaluated) (with_output c ct h)

@@ -16,7 +16,7 @@ use Rattle.session_rules.specs.Facts.{Kept}
 use Rattle.session_rules.specs.Grounds.{Grounded}
 use Rattle.session_spec.specs.Settings.{Setting, rules}
 use Rattle.session_spec.specs.Stores.{Store, held_input, held_key, with_input}
-use Rattle.session_spec.specs.Laws.{Matches}
+use Rattle.session_spec.specs.Honesty.{Matches}
 use Rattle.session_state.specs.Parts.{HasCipher, Holds}
 use Rattle.session_state.proofs.Rows.{rules_number, plan_inputs, row_length, inputs_number, row_number, cell_same, cell_beside, cell_off}
 

@@ -32,14 +32,14 @@ use Rattle.session_rules.proofs.Stepwise.{issue_beside, beside_is}
 use Rattle.session_rules.proofs.Weights.{issue_is_its_moves}
 use Rattle.session_spec.specs.Settings.{Setting, Offer}
 use Rattle.session_spec.specs.Stores.{Store, held_polys, held_sums, held_output, cipher_or, key_by, held_key, polys_by, polys_told as polys_for, zero_sums, grown}
-use Rattle.session_spec.specs.Outputs.{key_instance}
-use Rattle.session_spec.specs.Laws.{Matches}
+use Rattle.session_spec.specs.Outputs.{done_instance, key_instance}
+use Rattle.session_spec.specs.Honesty.{Matches}
 use Rattle.session_state.proofs.LastShares.{evaluated_there}
 use Rattle.session_rules.specs.declared.state.CircuitState.TheVariants.{Evaluated}
-use Rattle.session_state.specs.Parts.{setting_by, store_by, polys_in, AreTold, HasCipher, Holds}
+use Rattle.session_state.specs.Parts.{setting_by, store_by, polys_in, IsOfOne, AreTold, HasCipher, Holds}
 use Rattle.session_state.specs.Issuings.{move_of, brief_of, sums_of, IsPlanned}
 use Rattle.session_state.specs.declared.issuing.Step.{Step}
-use Rattle.session_state.proofs.Behind.{IsOpened, behind, by_signatures, due_again, zeros_again, told_again, grown_lists}
+use Rattle.session_state.proofs.Behind.{IsOpened, IsAsked, behind, by_signatures, asked_all, due_again, zeros_again, told_again, grown_lists}
 
 -- ---- what holds of a standing with more instances
 
@@ -60,13 +60,13 @@ matches_more w s h more m = record {
 }
 
 -- what an instance is told that is issued
-told_by : (p : Params) (h : Store) (σ : Signature) → ((c : ℕ) → σ ≡ Dec c → HasCipher p (held_output h c)) → AreTold p σ (polys_by h σ)
+told_by : (p : Params) (h : Store) (σ : Signature) (first : ℕ) → IsOfOne σ → ((c : ℕ) → σ ≡ Dec c → HasCipher p (held_output h c)) → AreTold p σ (polys_by h σ first)
 unfolding polys_by
-told_by p h Pk has = record { number = refl; fit = All-nil (IsPoly p.q p.n) }
-told_by p h Rlk1 has = record { number = refl; fit = All-nil (IsPoly p.q p.n) }
-told_by p h Rlk2 has = record { number = refl; fit = All-nil (IsPoly p.q p.n) }
-told_by p h (Rot g) has = record { number = refl; fit = All-nil (IsPoly p.q p.n) }
-told_by p h (Dec c) has =
+told_by p h Pk first one has = record { number = refl; fit = All-nil (IsPoly p.q p.n) }
+told_by p h Rlk1 first one has = absurd one
+told_by p h Rlk2 first one has = absurd one
+told_by p h (Rot g) first one has = absurd one
+told_by p h (Dec c) first one has =
     let fits = (has c refl).fits in
     record { number = refl; fit = All-cons (IsPoly p.q p.n) (cipher_or (held_output h c)).c1 [] fits.c1 (All-nil (IsPoly p.q p.n)) }
 
@@ -93,9 +93,9 @@ found_at is id i e = at (nat_eq id 0) e
 abbrev AreFounded : List CircuitState → List Instance → Type 0
 AreFounded cs more = (i : Instance) → Contains more i → (c : ℕ) → i.signature ≡ Dec c → circuit cs c ≡ Evaluated
 
-told_more : (p : Params) (w : Setting) (s : State) (h : Store) (more : List Instance) → Matches w s h → Holds p s h → AreFounded s.circuits more
+told_more : (p : Params) (w : Setting) (s : State) (h : Store) (more : List Instance) → Matches w s h → Holds p s h → AreFounded s.circuits more → All IsAsked more
     → (id : ℕ) (i : Instance) → instance (s.instances ++ more) id ≡ Some i → IsLive i → AreTold p i.signature (held_polys (with_more w more h) id)
-told_more p w s h more m o founded id i e live =
+told_more p w s h more m o founded asked id i e live =
     let got = found_at (s.instances ++ more) id i e in
     let within : id - 1 < length (s.instances ++ more) = slice_get_within (s.instances ++ more) (id - 1) i got in
     let stands : get_or (s.instances ++ more) (id - 1) i ≡ i = get_or_from_slice_get (s.instances ++ more) (id - 1) i i got in
@@ -108,16 +108,16 @@ told_more p w s h more m o founded id i e live =
           let k : ℕ = id - 1 - length s.instances in
           let below : k < length more = omega (arith, length-append s.instances more) in
           let here : get_or more k i ≡ i = sym (get_or-append_right s.instances more (length s.instances) (id - 1) i refl past) ∙ stands in
-          let polys : get_or (h.told ++ map (polys_for h) more) (id - 1) [] ≡ polys_by h i.signature =
+          let polys : get_or (h.told ++ map (polys_for h) more) (id - 1) [] ≡ polys_for h i =
           get_or-append_right h.told (map (polys_for h) more) (length s.instances) (id - 1) [] n past
           ∙ get_or-map (polys_for h) more k i [] below ∙ ap (polys_for h) here in
           subst (λ (z : List (List ℕ)). AreTold p i.signature z) (sym polys)
-          (told_by p h i.signature (λ c d. let e = founded i (k, below, here) c d in o.outputs c (evaluated_there s.circuits c e) (rw e refl)))
+          (told_by p h i.signature i.round1 (All-contains IsAsked more i asked (k, below, here)) (λ c d. let e = founded i (k, below, here) c d in o.outputs c (evaluated_there s.circuits c e) (rw e refl)))
     ]
 
-holds_more : (p : Params) (w : Setting) (s : State) (h : Store) (more : List Instance) → Matches w s h → Holds p s h → AreFounded s.circuits more → Holds p (more_instances s more) (with_more w more h)
-holds_more p w s h more m o founded = record {
-  told = told_more p w s h more m o founded;
+holds_more : (p : Params) (w : Setting) (s : State) (h : Store) (more : List Instance) → Matches w s h → Holds p s h → AreFounded s.circuits more → All IsAsked more → Holds p (more_instances s more) (with_more w more h)
+holds_more p w s h more m o founded asked = record {
+  told = told_more p w s h more m o founded asked;
   inputs = o.inputs;
   outputs = o.outputs;
   answers = o.answers;
@@ -132,7 +132,7 @@ none_opened [] h = refl
 none_opened (i ∷ more) h = rw (not_done i (All-head IsOpened i more h)) (none_opened more (All-tail IsOpened i more h))
 
 same_instance : (is more : List Instance) → All IsOpened more → key_instance (is ++ more) ≡ key_instance is
-unfolding key_instance
+unfolding done_instance
 same_instance is more h = find-append (is_done Pk) is more ∙ at (find (is_done Pk) is)
   where
     at : (o : Option Instance) → option_or o (find (is_done Pk) more) ≡ o
@@ -147,7 +147,7 @@ same_sums w s h more i m numbered within =
     get_or_append_left h.sums (map (zero_sums w) more) [] (i.id - 1) (omega arith)
 
 key_within : (is : List Instance) (i : Instance) → key_instance is ≡ Some i → Contains is i
-unfolding key_instance
+unfolding done_instance
 key_within is i e = (find_some (is_done Pk) is i e).0
 
 keyed_more : (w : Setting) (s : State) (h : Store) (more : List Instance) → Matches w s h → Numbered s.instances → All IsOpened more
@@ -201,10 +201,11 @@ grows p public offers f s js inputs outputs answers briefs now_briefs sums now_s
     let h : Store = store_by briefs sums inputs outputs answers in
     let b = behind is xs in
     let all : js ≡ is ++ b.more = r.instances ∙ b.all in
+    let asked : All IsAsked b.more = asked_all p b.more xs b.signatures r.planned.fresh in
     let told : map polys_in now_briefs ≡ map polys_in briefs ++ map (polys_for h) b.more =
     ap (map polys_in) r.briefs_are ∙ map-append polys_in briefs (map brief_of xs)
     ∙ ap (λ (zs : List (List (List ℕ))). map polys_in briefs ++ zs)
-    (told_again xs ∙ r.planned.polys ∙ sym (due_again h outputs xs refl) ∙ sym (by_signatures (polys_by h) b.more xs b.signatures)) in
+    (told_again xs ∙ r.planned.polys ∙ sym (due_again h outputs b.more xs refl asked b.signatures)) in
     let zeros : now_sums ≡ sums ++ map (zero_sums w) b.more =
     r.sums_are ∙ ap (λ (zs : List (List (List ℕ))). sums ++ zs)
     (sym (zeros_again p public offers xs r.planned.fresh)
@@ -215,7 +216,7 @@ grows p public offers f s js inputs outputs answers briefs now_briefs sums now_s
     let grows_ : Grows p w s (is ++ b.more) h (with_more w b.more h) = record {
       store = sym (grown_lists w h is b.more (m.told) (m.sums));
       matches = matches_more w s h b.more m;
-      holds = holds_more p w s h b.more m o f_;
+      holds = holds_more p w s h b.more m o f_ asked;
       keyed = keyed_more w s h b.more m numbered b.opened;
     } in
     subst (λ (ks : List Instance). Grows p w s ks h (store_by now_briefs now_sums inputs outputs answers)) (sym all)

@@ -12,7 +12,7 @@ use Rattle.session_rules.proofs.Contained.{find_some, find_none}
 use Rattle.session_rules.proofs.Marks.{IsDone, done_is, done_from, complete_lives, one_number}
 use Rattle.session_spec.specs.Settings.{Setting}
 use Rattle.session_spec.specs.Stores.{Store, held_sums, key_by, held_key}
-use Rattle.session_spec.specs.Outputs.{key_instance}
+use Rattle.session_spec.specs.Outputs.{done_instance, key_instance}
 use Rattle.bfv_spec.specs.Shares.{pk_from}
 
 found_is : (f : Fixed) (s : State) (j : Instance) → Kept f s → Contains s.instances j → IsDone Pk j → (o : Option Instance) → find (is_done Pk) s.instances ≡ o → o ≡ Some j
@@ -25,7 +25,7 @@ found_is f s j k m d (Some x) e =
 
 -- where one is complete it is that
 pub key_is : (f : Fixed) (s : State) (j : Instance) → Kept f s → Contains s.instances j → IsDone Pk j → key_instance s.instances ≡ Some j
-unfolding key_instance
+unfolding done_instance
 key_is f s j k m d = found_is f s j k m d (find (is_done Pk) s.instances) refl
 
 -- the same ones of two lists are complete keys
@@ -44,7 +44,7 @@ pub record KeyIn (is : List Instance) (j : Instance) : Type 0 where
   pub done : IsDone Pk j
 
 pub key_within : (is : List Instance) (j : Instance) → key_instance is ≡ Some j → KeyIn is j
-unfolding key_instance
+unfolding done_instance
 key_within is j e = let at = find_some (is_done Pk) is j e in record { within = at.0; done = done_is Pk j at.1 }
 
 same_found : (f : Fixed) (t : State) (is : List Instance) → Kept f t → SameKeys is t.instances → (o : Option Instance) → find (is_done Pk) is ≡ o → find (is_done Pk) t.instances ≡ o
@@ -54,7 +54,7 @@ same_found f t is k same (Some j) e =
     found_is f t j k (same.stays j at.0 (done_is Pk j at.1)) (done_is Pk j at.1) (find (is_done Pk) t.instances) refl
 
 pub same_key : (f : Fixed) (t : State) (is : List Instance) → Kept f t → SameKeys is t.instances → key_instance t.instances ≡ key_instance is
-unfolding key_instance
+unfolding done_instance
 same_key f t is k same = same_found f t is k same (find (is_done Pk) is) refl
 
 -- and the key that is held is the same, where their sums are

@@ -21,7 +21,7 @@ use Rattle.session_rules.specs.Facts.{is_settled, Kept, IsLater}
 use Rattle.session_rules.proofs.Contained.{contains_map}
 use Rattle.session_rules.proofs.Marks.{instance_within}
 use Rattle.session_spec.specs.Settings.{Setting}
-use Rattle.session_spec.specs.Laws.{Matches}
+use Rattle.session_spec.specs.Honesty.{Matches}
 use Rattle.session_spec.specs.Outputs.{key_instance}
 use Rattle.session_spec.specs.Stores.{Store, held_sums, key_by, held_key}
 use Rattle.session_state.specs.Completions.{last_counted}

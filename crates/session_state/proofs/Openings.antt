@@ -29,10 +29,10 @@ use Rattle.session_rules.proofs.Whole.{circuits_are_whole}
 use Rattle.session_rules.specs.States.{State, seen, circuit, plan, no_plan, is_admitted, none_given, opening_of, opening}
 use Rattle.session_rules.specs.Issues.{keys, wants_key, wants_relin}
 use Rattle.session_rules.specs.Fixing.{plan_of, fixed_from, rotates, admits_turn, is_turned}
-use Rattle.session_spec.specs.Settings.{Setting, Offer, nodes_of, nodes_at, no_offer, rules, Keeps}
+use Rattle.session_spec.specs.Settings.{Setting, Offer, nodes_of, nodes_at, no_offer, rules, Keeps, IsSwitchFree}
 use Rattle.session_spec.specs.Stores.{Store, no_inputs, empty, held_key}
-use Rattle.session_spec.specs.Outputs.{key_instance}
-use Rattle.session_spec.specs.Laws.{count_inputs, Matches}
+use Rattle.session_spec.specs.Outputs.{done_instance, key_instance}
+use Rattle.session_spec.specs.Honesty.{count_inputs, Matches}
 use Rattle.session_state.specs.Parts.{setting_by, Holds, IsPk}
 use Rattle.session_state.proofs.Rows.{rules_number, plan_inputs, row_length}
 
@@ -103,11 +103,11 @@ filter_none : (test : ℕ → Bool) (xs : List ℕ) → ((x : ℕ) → test x �
 filter_none test [] none = refl
 filter_none test (x ∷ xs) none = rw (none x) (filter_none test xs none)
 
-record NeedsNoSwitch (p : Numbers) (nodes : List Node) : Type 0 where
+record NeedsOnlyPk (p : Numbers) (nodes : List Node) : Type 0 where
   product : (plan_of p nodes).product ≡ false
   turns : (plan_of p nodes).turns ≡ []
 
-needs_none : (p : Numbers) (nodes : List Node) → is_switch_free nodes ≡ true → NeedsNoSwitch p nodes
+needs_none : (p : Numbers) (nodes : List Node) → is_switch_free nodes ≡ true → NeedsOnlyPk p nodes
 unfolding is_switch_free plan_of
 needs_none p nodes e =
     let both = and_parts (not (has_product nodes)) (not (list_any is_rotation nodes)) e in
@@ -117,28 +117,28 @@ needs_none p nodes e =
     }
 
 -- no plan passes a test that none does whose circuit needs no key switch
-no_plan_passes : (p : Params) (offers : List Offer) (test : Plan → Bool) → All (Keeps p) offers
-    → ((nodes : List Node) → NeedsNoSwitch (numbers_of p) nodes → test (plan_of (numbers_of p) nodes) ≡ false) → list_any test (map (plan_of (numbers_of p)) (map nodes_of offers)) ≡ false
-no_plan_passes p offers test keep none =
+no_plan_passes : (p : Params) (offers : List Offer) (test : Plan → Bool) → All IsSwitchFree offers
+    → ((nodes : List Node) → NeedsOnlyPk (numbers_of p) nodes → test (plan_of (numbers_of p) nodes) ≡ false) → list_any test (map (plan_of (numbers_of p)) (map nodes_of offers)) ≡ false
+no_plan_passes p offers test free none =
     let q = numbers_of p in
     let nodes = map nodes_of offers in
     let plans = map (plan_of q) nodes in
     list_any_none test plans (All-from_get_or (λ x. test x ≡ false) plans no_plan (λ k l.
     let less : k < length offers = omega (arith, length-map nodes (plan_of q), length-map offers nodes_of) in
     let within : k < length nodes = omega (arith, length-map offers nodes_of) in
-    let keeps = All-get_or (Keeps p) offers k no_offer less keep in
+    let its = All-get_or IsSwitchFree offers k no_offer less free in
     let at : get_or plans k no_plan ≡ plan_of q (get_or offers k no_offer).nodes =
     get_or-map (plan_of q) nodes k [] no_plan within ∙ ap (plan_of q) (get_or-map nodes_of offers k no_offer [] less) in
-    ap test at ∙ none (get_or offers k no_offer).nodes (needs_none q (get_or offers k no_offer).nodes keeps.switch_free)))
+    ap test at ∙ none (get_or offers k no_offer).nodes (needs_none q (get_or offers k no_offer).nodes its)))
 
-wants_none : (p : Numbers) (nodes : List Node) → NeedsNoSwitch p nodes → wants_relin (plan_of p nodes) ≡ false
+wants_none : (p : Numbers) (nodes : List Node) → NeedsOnlyPk p nodes → wants_relin (plan_of p nodes) ≡ false
 wants_none p nodes n = at (is_admitted (plan_of p nodes))
   where
     at : (b : Bool) → (b && (plan_of p nodes).product) ≡ false
     at true = n.product
     at false = refl
 
-turns_none : (p : Numbers) (g : ℕ) (nodes : List Node) → NeedsNoSwitch p nodes → admits_turn g (plan_of p nodes) ≡ false
+turns_none : (p : Numbers) (g : ℕ) (nodes : List Node) → NeedsOnlyPk p nodes → admits_turn g (plan_of p nodes) ≡ false
 turns_none p g nodes n = at (is_admitted (plan_of p nodes))
   where
     at : (b : Bool) → (b && list_any (nat_eq g) (plan_of p nodes).turns) ≡ false
@@ -149,24 +149,24 @@ turns_none p g nodes n = at (is_admitted (plan_of p nodes))
 abbrev key_if : Bool → List Signature
 key_if b = cond b (Pk ∷ []) []
 
-rules_turns : (p : Params) (public : List ℕ) (offers : List Offer) → All (Keeps p) offers → (rules (setting_by p public offers)).turns ≡ []
+rules_turns : (p : Params) (public : List ℕ) (offers : List Offer) → All IsSwitchFree offers → (rules (setting_by p public offers)).turns ≡ []
 unfolding rules fixed_from
-rules_turns p public offers keep =
+rules_turns p public offers free =
     let plans = map (plan_of (numbers_of p)) (map nodes_of offers) in
-    filter_none (is_turned plans) (range_with_len 0 (2 * p.n)) (λ g. no_plan_passes p offers (admits_turn g) keep (turns_none (numbers_of p) g))
+    filter_none (is_turned plans) (range_with_len 0 (2 * p.n)) (λ g. no_plan_passes p offers (admits_turn g) free (turns_none (numbers_of p) g))
 
-rules_relin : (p : Params) (public : List ℕ) (offers : List Offer) → All (Keeps p) offers → list_any wants_relin (rules (setting_by p public offers)).plans ≡ false
+rules_relin : (p : Params) (public : List ℕ) (offers : List Offer) → All IsSwitchFree offers → list_any wants_relin (rules (setting_by p public offers)).plans ≡ false
 unfolding rules fixed_from
-rules_relin p public offers keep = no_plan_passes p offers wants_relin keep (wants_none (numbers_of p))
+rules_relin p public offers free = no_plan_passes p offers wants_relin free (wants_none (numbers_of p))
 
-keys_are : (p : Params) (public : List ℕ) (offers : List Offer) → All (Keeps p) offers
+keys_are : (p : Params) (public : List ℕ) (offers : List Offer) → All IsSwitchFree offers
     → keys (rules (setting_by p public offers)) ≡ key_if (list_any wants_key (rules (setting_by p public offers)).plans) ++ [] ++ []
 unfolding keys
-keys_are p public offers keep =
+keys_are p public offers free =
     let f = rules (setting_by p public offers) in
     let first = key_if (list_any wants_key f.plans) in
-    ap (λ (b : Bool). first ++ cond b (Rlk1 ∷ Rlk2 ∷ []) [] ++ map signature.Rot f.turns) (rules_relin p public offers keep)
-    ∙ ap (λ (z : List ℕ). first ++ [] ++ map signature.Rot z) (rules_turns p public offers keep)
+    ap (λ (b : Bool). first ++ cond b (Rlk1 ∷ Rlk2 ∷ []) [] ++ map signature.Rot f.turns) (rules_relin p public offers free)
+    ∙ ap (λ (z : List ℕ). first ++ [] ++ map signature.Rot z) (rules_turns p public offers free)
 
 pub record AreFew (needed : List Signature) : Type 0 where
   pub few : length needed ≤ 1
@@ -180,8 +180,8 @@ one_key true = record { few = omega arith; only = All-from_get_or IsPk (Pk ∷ [
     at zero l = refl
     at (suc k) l = refl
 
-pub few_keys : (p : Params) (public : List ℕ) (offers : List Offer) → All (Keeps p) offers → AreFew (keys (rules (setting_by p public offers)))
-few_keys p public offers keep = subst AreFew (sym (keys_are p public offers keep)) (one_key (list_any wants_key (rules (setting_by p public offers)).plans))
+pub few_keys : (p : Params) (public : List ℕ) (offers : List Offer) → All IsSwitchFree offers → AreFew (keys (rules (setting_by p public offers)))
+few_keys p public offers free = subst AreFew (sym (keys_are p public offers free)) (one_key (list_any wants_key (rules (setting_by p public offers)).plans))
 
 -- ---- nothing is there
 
@@ -267,7 +267,7 @@ unfolding empty
 store_opens w told sums inputs outputs answers a b c d e = rw a (rw b (rw c (rw d (rw e refl))))
 
 pub opening_keyed : (w : Setting) (h : Store) (is : List Instance) → is ≡ [] → None ≡ held_key w h is
-unfolding held_key key_instance
+unfolding held_key done_instance
 opening_keyed w h is e = rw e refl
 
 -- what the rules keep is kept there

@@ -25,19 +25,19 @@ use Rattle.session_rules.proofs.MoveKinds.{MoveIs, gives_up, second, other, move
 use Rattle.session_rules.proofs.Issued.{done_here, done_one}
 use Rattle.session_rules.proofs.Weights.{moves_are_few}
 use Rattle.session_rules.proofs.Planned.{moves_given}
-use Rattle.session_state.specs.Parts.{IsPk}
+use Rattle.session_state.specs.Parts.{IsPk, IsOfOne}
 use Rattle.session_state.specs.Issuings.{IsIssue, Decrypts, IsPlanned}
 use Rattle.session_state.specs.declared.issuing.Step.{Step}
 
--- a move that issues, and the decryption of a circuit only if that is evaluated
+-- a move that issues the public key or a decryption, and the decryption of a circuit only if that is evaluated
 pub record IsDue (circuits : List CircuitState) (m : Move) : Type 0 where
   pub issues : IsIssue m
   pub evaluated : (c : ℕ) → Decrypts m c → circuit circuits c ≡ Evaluated
 
 due_issue : (circuits : List CircuitState) (σ : Signature) (set : PartySet) (f : Fixed) → All IsPk (keys f) → IsNeeded f circuits σ → IsDue circuits (Issue σ set 0)
-due_issue circuits σ set f only (key within) = record { issues = tt; evaluated = λ c e. let pk : σ ≡ Pk = All-contains IsPk (keys f) σ only within in cc }
+due_issue circuits σ set f only (key within) = let pk : σ ≡ Pk = All-contains IsPk (keys f) σ only within in record { issues = subst (λ (z : Signature). IsOfOne z) (sym pk) tt; evaluated = λ c e. cc }
 due_issue circuits σ set f only (decryption d is within e) =
-    record { issues = tt; evaluated = λ c so. let at : d ≡ c = cc in subst (λ (x : ℕ). circuit circuits x ≡ Evaluated) at e }
+    record { issues = subst (λ (z : Signature). IsOfOne z) (sym is) tt; evaluated = λ c so. let at : d ≡ c = cc in subst (λ (x : ℕ). circuit circuits x ≡ Evaluated) at e }
 
 move_due : (f : Fixed) (s : State) (m : Move) → All IsPk (keys f) → has_done Rlk1 s.instances ≡ false → MoveIs f s m → IsDue s.circuits m
 move_due f s m only none (gives_up i by unused within done out e) = absurd (both_ways (has_done Rlk1 s.instances) none (done_here Rlk1 s.instances i within done))

@@ -14,7 +14,7 @@ use Rattle.session_rules.specs.States.{State, plan, no_plan}
 use Rattle.session_rules.specs.Fixing.{plan_of, fixed_from}
 use Rattle.session_spec.specs.Settings.{Setting, nodes_of, nodes_at, no_offer, rules, input_count}
 use Rattle.session_spec.specs.Stores.{Store}
-use Rattle.session_spec.specs.Laws.{count_inputs, Matches}
+use Rattle.session_spec.specs.Honesty.{count_inputs, Matches}
 use Rattle.session_state.specs.Shared.{shared_if}
 use Rattle.session_state.specs.Parts.{ciphers_in}
 

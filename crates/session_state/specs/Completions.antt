@@ -1,12 +1,11 @@
 -- What a complete instance gives: the public key, or the answer of a circuit.
-use Rattle.std.specs.Prelude.{◌≡◌, ℕ, List, [], slice_index_or, ⊤}
+use Rattle.std.specs.Prelude.{◌≡◌, ℕ, List, [], slice_index_or}
 use Rattle.ring_spec.specs.Ring.{IsPoly, ring_sum}
 use Rattle.ring_spec.specs.Pairs.{Key}
 use Rattle.bfv_spec.specs.Scheme.{decryption}
 use Rattle.bfv_spec.specs.Shares.{pk_from}
 use Rattle.param_set.specs.declared.params.Params.{Params}
-use Rattle.proto_names.specs.declared.signature.Signature.{Signature}
-use Rattle.proto_names.specs.declared.signature.Signature.TheVariants.{Pk, Rlk1, Rlk2, Rot, Dec}
+use Rattle.proto_names.specs.declared.signature.Signature.TheVariants.{Pk, Dec}
 use Rattle.proto_names.specs.declared.instance.Instance.{Instance}
 use Rattle.proto_names.specs.Instances.{after_share}
 use Rattle.session_rules.specs.States.{State}
@@ -15,14 +14,6 @@ use Rattle.session_spec.specs.Settings.{Setting}
 use Rattle.session_spec.specs.Stores.{Store, held_output, cipher_or}
 use Rattle.session_state.specs.declared.completing.Made.{Made}
 use Rattle.session_state.specs.declared.completing.Made.TheVariants.{PublicKey, Answer}
-
--- a signature whose shares have one row: the public key, or a decryption
-abbrev pub IsOfOne : Signature → Type 0
-IsOfOne Pk = ⊤
-IsOfOne Rlk1 = ⊥
-IsOfOne Rlk2 = ⊥
-IsOfOne (Rot g) = ⊥
-IsOfOne (Dec c) = ⊤
 
 -- what an instance gives, where the store holds the outputs, and these are its sums: the public key
 pub record IsKey (w : Setting) (sums : List (List ℕ)) (i : Instance) (key : Key) : Type 0 where

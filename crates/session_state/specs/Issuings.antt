@@ -1,5 +1,5 @@
 -- What the rules of issue issue after a call, planned before anything is changed.
-use Rattle.std.specs.Prelude.{◌≡◌, ℕ, ◌+◌, List, [], length, map, slice_set, All, Option, Some, None, ⊤}
+use Rattle.std.specs.Prelude.{◌≡◌, ℕ, ◌+◌, List, [], length, map, slice_set, All, Option, Some, None}
 use Rattle.std.specs.List.{range_with_len}
 use Rattle.std.specs.declared.alloc.Global.{Global}
 use Rattle.std.specs.declared.sync.Arc.{Arc}
@@ -16,7 +16,7 @@ use Rattle.session_rules.specs.declared.fixed.Fixed.{Fixed}
 use Rattle.session_rules.specs.States.{State}
 use Rattle.session_rules.specs.Issues.{moves}
 use Rattle.session_spec.specs.Stores.{polys_by}
-use Rattle.session_state.specs.Parts.{store_by}
+use Rattle.session_state.specs.Parts.{store_by, IsOfOne}
 use Rattle.session_state.specs.declared.issuing.Step.{Step}
 
 -- ---- the parts of a step
@@ -41,9 +41,9 @@ sums_of step = step.sums
 
 -- ---- what they have to be
 
--- what the parties of an instance are told where these are the circuits' outputs
+-- what the parties of an instance without a first round are told where these are the circuits' outputs
 abbrev pub polys_from : List (Option Cipher) → Signature → List (List ℕ)
-polys_from outputs σ = polys_by (store_by [] [] [] outputs []) σ
+polys_from outputs σ = polys_by (store_by [] [] [] outputs []) σ 0
 
 abbrev pub polys_due : List (Option Cipher) → Step → List (List ℕ)
 polys_due outputs step = polys_from outputs step.signature
@@ -53,18 +53,20 @@ abbrev pub with_made : List (Option Cipher) → ℕ → Option Cipher → List (
 with_made outputs c None = outputs
 with_made outputs c (Some ct) = slice_set outputs c (Some ct)
 
--- its brief has its signature and the one group, and no share is added to its sums
+-- it is of the public key or a decryption, its brief has its signature and the one group, and no share is added to
+-- its sums
 pub record IsFresh (p : Params) (step : Step) : Type 0 where
+  pub asked : IsOfOne step.signature
   pub signature : step.brief.value.signature ≡ step.signature
   pub groups : step.brief.value.groups.value ≡ first_groups p.threshold p.parties
   pub sums : step.sums ≡ no_sums p step.signature
 
 -- ---- moves
 
--- a move that issues
+-- a move that issues the public key or a decryption
 abbrev pub IsIssue : Move → Type 0
 IsIssue (GiveUp id by) = ⊥
-IsIssue (Issue σ set round1) = ⊤
+IsIssue (Issue σ set round1) = IsOfOne σ
 
 -- one that issues the decryption of circuit c
 abbrev pub Decrypts : Move → ℕ → Type 0

@@ -1,12 +1,14 @@
 -- The parts of a standing as the setting, the state and the store that they stand for, and what holds of them
 -- whatever the shares were.
-use Rattle.std.specs.Prelude.{◌≡◌, ℕ, ◌<◌, true, List, [], map, length, All, Option, Some, None, is_some}
+use Rattle.std.specs.Prelude.{◌≡◌, ℕ, ◌<◌, true, List, [], map, length, All, Option, Some, None, is_some, ⊤}
 use Rattle.std.specs.declared.alloc.Global.{Global}
 use Rattle.std.specs.declared.sync.Arc.{Arc}
 use Rattle.ring_spec.specs.Ring.{IsPoly}
 use Rattle.ring_spec.specs.Pairs.{Cipher, CipherFits}
 use Rattle.param_set.specs.declared.params.Params.{Params}
+use Rattle.param_set.specs.Moduli.{digit_rows}
 use Rattle.param_set.specs.Numbers.{numbers_of}
+use Rattle.proto_names.specs.Names.{polys_of_brief}
 use Rattle.proto_names.specs.Instances.{instance}
 use Rattle.proto_names.specs.Roles.{first_groups}
 use Rattle.proto_names.specs.declared.signature.Signature.{Signature}
@@ -50,16 +52,9 @@ IsThere input = is_some input ≡ true
 
 -- ---- what it holds: all that is given, evaluated or answered is there, and fits
 
--- how many polynomials the parties of an instance are told
-abbrev pub polys_told : Signature → ℕ
-polys_told Pk = 0
-polys_told Rlk1 = 0
-polys_told Rlk2 = 0
-polys_told (Rot g) = 0
-polys_told (Dec c) = 1
-
+-- the polynomials that the parties of an instance are told
 pub record AreTold (p : Params) (σ : Signature) (polys : List (List ℕ)) : Type 0 where
-  pub number : length polys ≡ polys_told σ
+  pub number : length polys ≡ polys_of_brief σ (digit_rows p.q p.digit_bits)
   pub fit : All (IsPoly p.q p.n) polys
 
 pub record HasCipher (p : Params) (held : Option Cipher) : Type 0 where
@@ -84,3 +79,11 @@ pub record Holds (p : Params) (s : State) (h : Store) : Type 0 where
 -- the one key that circuits without key switches need
 abbrev pub IsPk : Signature → Type 0
 IsPk σ = σ ≡ Pk
+
+-- a signature whose shares have one row: the public key, or a decryption
+abbrev pub IsOfOne : Signature → Type 0
+IsOfOne Pk = ⊤
+IsOfOne Rlk1 = ⊥
+IsOfOne Rlk2 = ⊥
+IsOfOne (Rot g) = ⊥
+IsOfOne (Dec c) = ⊤

@@ -14,8 +14,9 @@ ghost use Rattle.session_rules.specs.Deeds.{answered_by};
 ghost use Rattle.session_rules.specs.Facts.{Kept};
 ghost use Rattle.session_rules.specs.Grounds.{Grounded};
 ghost use Rattle.session_spec.specs.Stores.{held_sums, held_output, cipher_or, with_rows, with_answer, grown};
-ghost use Rattle.session_state.specs.Completions.{IsOfOne, IsKey, IsAnswer, IsMade, last_counted};
+ghost use Rattle.session_state.specs.Completions.{IsKey, IsAnswer, IsMade, last_counted};
 ghost use Rattle.session_state.specs.Issuings.{IsPlanned};
+ghost use Rattle.session_state.specs.Parts.{IsOfOne};
 ghost use Rattle.session_state.specs.Standings.{setting, rules_of, state, store, HasRoom, IsUnchanged};
 ghost use Rattle.session_state.specs.Wanted.{IsWanted};
 

@@ -3,7 +3,7 @@ ghost use Rattle.param_set.specs.Numbers.{numbers_of};
 ghost use Rattle.proto_names.specs.Roles.{first_groups};
 ghost use Rattle.session_rules.specs.Fixing.{plan_of as plan_by};
 ghost use Rattle.session_rules.specs.States.{opening, opening_of, none_given};
-ghost use Rattle.session_spec.specs.Settings.{rules as rules_for, nodes_of, Keeps};
+ghost use Rattle.session_spec.specs.Settings.{rules as rules_for, nodes_of, Keeps, NeedsNoSwitch};
 ghost use Rattle.session_spec.specs.Stores.{empty, no_inputs};
 ghost use Rattle.session_state.specs.Parts.{setting_by, ciphers_in};
 ghost use Rattle.session_state.specs.Standings.{setting, state, store};
@@ -87,6 +87,7 @@ impl Standing {
         circuits: Circuits,
     ) -> Result<Standing, AllocError>
         requires keep { All (Keeps ring.value.params) circuits }
+        requires free { NeedsNoSwitch (setting_by ring.value.params public circuits) }
         requires few { length circuits ≤ 64 }
         ensures params { IfOk result (λ st. st.params ≡ ring.value.params) }
         ensures setting { IfOk result (λ st. setting st

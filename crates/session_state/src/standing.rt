@@ -2,9 +2,9 @@ ghost use Rattle.std.specs.Prelude.{◌≡◌, ℕ, ◌≤◌, length, All};
 ghost use Rattle.proto_names.specs.Roles.{first_groups};
 ghost use Rattle.session_rules.specs.States.{seen, plan};
 ghost use Rattle.session_rules.specs.Issues.{keys};
-ghost use Rattle.session_spec.specs.Settings.{rules as rules_for, IsSetting};
+ghost use Rattle.session_spec.specs.Settings.{rules as rules_for, IsSetting, NeedsNoSwitch};
 ghost use Rattle.session_spec.specs.Stores.{held_key};
-ghost use Rattle.session_spec.specs.Laws.{Matches};
+ghost use Rattle.session_spec.specs.Honesty.{Matches};
 ghost use Rattle.session_state.specs.Shared.{shared_if};
 ghost use Rattle.session_state.specs.Parts.{setting_by, store_by, Holds, IsPk, IsOfFirst};
 
@@ -45,6 +45,7 @@ pub struct Standing {
     pub ghost rules_are: { rules ≡ rules_for (setting_by params public circuits) },
     pub ghost needed_are: { needed.items ≡ keys rules },
     pub ghost setting_is: { IsSetting params (setting_by params public circuits) },
+    pub ghost free: { NeedsNoSwitch (setting_by params public circuits) },
     pub ghost few: { length circuits ≤ 64 },
     pub ghost lengths: { (length rules.plans ≡ length circuits) × (length given.items ≡ length circuits) × (length states.items ≡ length circuits) },
     pub ghost few_inputs: { (c : ℕ) → length (plan rules c).owners ≤ 256 },

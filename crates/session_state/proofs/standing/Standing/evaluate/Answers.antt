@@ -21,6 +21,7 @@ invariant_of-self c =
       rules_are = st.rules_are;
       needed_are = st.needed_are;
       setting_is = st.setting_is;
+      free = st.free;
       few = st.few;
       lengths = (st.lengths.0, st.lengths.1, ap length c.requires.states ∙ length-set st.states.items n Evaluated ∙ st.lengths.2);
       few_inputs = st.few_inputs;

@@ -72,6 +72,7 @@ invariant_of-self c =
       rules_are = st.rules_are;
       needed_are = st.needed_are;
       setting_is = st.setting_is;
+      free = st.free;
       few = st.few;
       lengths = (st.lengths.0, length-set st.given.items n c.set.new.self ∙ st.lengths.1, st.lengths.2);
       few_inputs = st.few_inputs;

@@ -10,7 +10,7 @@ use Rattle.session_spec.specs.Stores.{cipher_or}
 use Rattle.session_state.specs.Parts.{ciphers_in}
 use Rattle.session_state.specs.Standings.{setting, state, store}
 use Rattle.session_state.proofs.Rows.{inputs_number, row_is}
-use Rattle.session_state.proofs.Takings.{has_inputs, all_there, all_fit, circuit_keeps}
+use Rattle.session_state.proofs.Takings.{has_inputs, all_there, all_fit, circuit_keeps, circuit_is_free}
 use Rattle.session_state.proofs.standing.Standing.job.Goals as goal
 
 pub index-requires : goal.index-requires
@@ -41,7 +41,7 @@ returns c =
       circuit = record { number = refl; circuit = nodes; inputs = inputs };
       ready = record {
         circuit = subst (λ (z : List Node). first_fault st.params.n st.params.t st.params.parties z ≡ None) (sym nodes) keeps.rules;
-        switch_free = subst (λ (z : List Node). is_switch_free z ≡ true) (sym nodes) keeps.switch_free;
+        switch_free = subst (λ (z : List Node). is_switch_free z ≡ true) (sym nodes) (circuit_is_free w number st.free c.requires.there);
         count = ap length inputs ∙ length-map (get_or h.inputs number []) cipher_or ∙ has.number ∙ sym (ap (λ (z : List Node). length (owners z)) nodes);
         inputs = subst (λ (z : List Cipher). All (CipherFits st.params.q st.params.n) z) (sym inputs) (all_fit st.params w h number has);
       };

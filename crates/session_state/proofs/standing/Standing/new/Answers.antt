@@ -50,19 +50,15 @@ invariant_of-result-clause-few_inputs c =
 
 pub invariant_of-result-clause-few_needed : goal.invariant_of-result-clause-few_needed
 invariant_of-result-clause-few_needed c =
-    let keep : All (Keeps c.params.result.now) c.args.circuits =
-    subst (λ (z : Params). All (Keeps z) c.args.circuits) (sym (c.params.ensures ∙ ap (λ (z : Ring). z.params) c.deref.ensures)) c.requires.keep in
     let f : c.in_ok-rules.rules ≡ rules (setting_by c.params.result.now c.args.public c.args.circuits) =
     c.in_ok-rules.ensures ∙ rules_from c.params.result.now c.args.public c.args.circuits c.in_ok-plans.plans c.in_ok-plans.ensures in
-    (subst AreFew (sym (c.in_ok-keys.ensures.keys ∙ ap keys f)) (few_keys c.params.result.now c.args.public c.args.circuits keep)).few
+    (subst AreFew (sym (c.in_ok-keys.ensures.keys ∙ ap keys f)) (few_keys c.params.result.now c.args.public c.args.circuits c.requires.free)).few
 
 pub invariant_of-result-clause-only_keys : goal.invariant_of-result-clause-only_keys
 invariant_of-result-clause-only_keys c =
-    let keep : All (Keeps c.params.result.now) c.args.circuits =
-    subst (λ (z : Params). All (Keeps z) c.args.circuits) (sym (c.params.ensures ∙ ap (λ (z : Ring). z.params) c.deref.ensures)) c.requires.keep in
     let f : c.in_ok-rules.rules ≡ rules (setting_by c.params.result.now c.args.public c.args.circuits) =
     c.in_ok-rules.ensures ∙ rules_from c.params.result.now c.args.public c.args.circuits c.in_ok-plans.plans c.in_ok-plans.ensures in
-    (subst AreFew (sym (c.in_ok-keys.ensures.keys ∙ ap keys f)) (few_keys c.params.result.now c.args.public c.args.circuits keep)).only
+    (subst AreFew (sym (c.in_ok-keys.ensures.keys ∙ ap keys f)) (few_keys c.params.result.now c.args.public c.args.circuits c.requires.free)).only
 
 pub invariant_of-result-clause-matches : goal.invariant_of-result-clause-matches
 invariant_of-result-clause-matches c =

@@ -39,6 +39,7 @@ invariant_of-self c =
       rules_are = st.rules_are;
       needed_are = st.needed_are;
       setting_is = st.setting_is;
+      free = st.free;
       few = st.few;
       lengths = st.lengths;
       few_inputs = st.few_inputs;
