@@ -16,7 +16,7 @@ use Rattle.session_rules.specs.Histories.{IsLegal, state_after}
 use Rattle.session_spec.specs.Settings.{Setting}
 use Rattle.session_spec.specs.Stores.{Store, Brought, store_done}
 use Rattle.session_spec.specs.Honesty.{IsHonest, Brings}
-use Rattle.session_spec.specs.Laws.{Stands}
+use Rattle.session_laws.specs.Laws.{Stands}
 use Rattle.session_laws.proofs.Calls.{calls_keep_honest}
 use Rattle.circuit_laws.proofs.Outputs.{outputs_carry}
 use Rattle.answer_laws.proofs.Answers.{answers_are_plain}

@@ -30,7 +30,7 @@ use Rattle.std.proofs.lemmas.List.FromFn.{length-map-range_with_len}
 use Rattle.party_roll.specs.Seeds.{seeds_told}
 use Rattle.session_spec.specs.Stores.{Store, empty}
 use Rattle.session_spec.specs.Honesty.{IsHonest}
-use Rattle.session_spec.specs.Laws.{Stands}
+use Rattle.session_laws.specs.Laws.{Stands}
 use Rattle.session_core.proofs.Members.{nobody_present}
 
 -- a standing, and the history that led to it
@@ -98,6 +98,7 @@ pub stands : (is_told : Bool) (seed : ℕ → List ℕ) (most : ℕ) (st : Stand
     → IsSoundBy is_told seed most st es → is_told ≡ true → Stands st.params (setting st) (seeds_told seed st.params.parties) (state st) (store st)
 stands is_told seed most st es e h t = record {
   setting = st.setting_is;
+  free = st.free;
   values = λ k d l. let it = h.values t k d l in tells_of st.params _ _ refl it.told it.number it.plain;
   parties = seeds_number seed st.params.parties;
   kept = kept st es e;

@@ -10,13 +10,14 @@ use Rattle.ring_spec.specs.Pairs.{Key, KeyFits}
 use Rattle.param_set.specs.declared.params.Params.{Params}
 use Rattle.proto_names.specs.Names.{is_void, rows_of, polys_of_brief}
 use Rattle.proto_names.specs.Instances.{instance}
+use Rattle.proto_names.specs.Roles.{role_of}
 use Rattle.proto_names.specs.declared.signature.Signature.{Signature}
 use Rattle.proto_names.specs.declared.signature.Signature.TheVariants.{Pk, Dec}
 use Rattle.proto_names.specs.declared.instance.Instance.{Instance}
 use Rattle.proto_names.specs.declared.instance.Stage.{Stage}
 use Rattle.proto_names.specs.declared.instance.Stage.TheVariants.{Opened, Complete, Void}
 use Rattle.circuit_runner.specs.declared.job.Job.{Job}
-use Rattle.instance_table.specs.Tables.{stands as is_standing, row_count, row_counts}
+use Rattle.instance_table.specs.Tables.{stands as is_standing, role_told, row_count, row_counts}
 use Rattle.instance_table.specs.declared.brief.Brief.{Brief}
 use Rattle.party_roll.specs.Briefs.{is_made, IsBrief}
 use Rattle.session_rules.specs.declared.call.Entry.{Entry}
@@ -33,14 +34,14 @@ use Rattle.session_rules.specs.Histories.{state_after}
 use Rattle.session_rules.proofs.Readiness.{found_ready}
 use Rattle.session_rules.proofs.Marks.{instance_id, instance_within, numbered_at}
 use Rattle.session_spec.specs.Settings.{Setting, rules}
-use Rattle.session_spec.specs.Outputs.{key_instance, key_in, inputs_of, polys_of, sums_of}
+use Rattle.session_spec.specs.Outputs.{key_instance, key_in, keys_in, inputs_of, polys_of, sums_of}
 use Rattle.session_spec.specs.Stores.{Store, cipher_or, held_polys, held_sums, held_key, key_by}
-use Rattle.session_spec.specs.Laws.{Stands}
+use Rattle.session_laws.specs.Laws.{Stands}
 use Rattle.session_laws.proofs.Plans.{rules_number}
 use Rattle.session_laws.proofs.Inputs.{ready_ones_have_inputs}
 use Rattle.session_laws.proofs.HeldKeys.{held_keys_are_keys}
 use Rattle.session_state.specs.declared.standing.Standing.{Standing}
-use Rattle.session_state.specs.Parts.{polys_told, IsPk}
+use Rattle.session_state.specs.Parts.{IsPk}
 use Rattle.session_state.specs.Shared.{shared_if}
 use Rattle.session_state.specs.Handed.{IsBriefOf, IsJobFor, brief_reply}
 use Rattle.session_state.specs.Standings.{rules_of, state, store, setting}
@@ -52,7 +53,7 @@ use Rattle.bfv_spec.specs.Shares.{pk_from}
 use Rattle.bfv_laws.proofs.Draws.{uniform_poly_is}
 use Rattle.param_set.specs.Moduli.{digit_rows}
 use Rattle.instance_table.specs.declared.table.Table.{Table}
-use Rattle.session_laws.proofs.Keys.{key_found}
+use Rattle.session_laws.proofs.Keys.{found_is}
 
 -- ---- the public key
 
@@ -96,12 +97,10 @@ pub has_brief : (s : State) (id : ℕ) (b : Brief) → steps.brief s id ≡ brie
 unfolding steps.brief
 has_brief s id b told = brief_if s id b (instance s.instances id) refl told
 
-brief_made : (p : Params) (h : Store) (i : Instance) (b : Brief) (σ : Signature) → IsBriefOf p h i b → i.signature ≡ σ → is_made σ ≡ true
-    → polys_told σ ≡ polys_of_brief σ (digit_rows p.q p.digit_bits) → IsBrief p b
-brief_made p h i b σ x e made number = record {
+brief_made : (p : Params) (h : Store) (i : Instance) (b : Brief) (σ : Signature) → IsBriefOf p h i b → i.signature ≡ σ → is_made σ ≡ true → IsBrief p b
+brief_made p h i b σ x e made = record {
   made = rw (x.signature, e) made;
-  number = x.told.number ∙ ap polys_told e ∙ number
-      ∙ ap (λ (z : Signature). polys_of_brief z (digit_rows p.q p.digit_bits)) (sym (x.signature ∙ e));
+  number = x.told.number ∙ ap (λ (z : Signature). polys_of_brief z (digit_rows p.q p.digit_bits)) (sym x.signature);
   fit = x.told.fit;
 }
 
@@ -110,15 +109,19 @@ pub brief_fits : (st : Standing) (es : List Entry) (i : Instance) (h : Store) (b
 brief_fits st es i h b e m x = elim ((grounded st es e).asked i m) [
   | inl wanted ↦
       let wanted_here : Contains st.needed.items i.signature = rw (st.needed_are, st.rules_are) wanted in
-      brief_made st.params h i b Pk x (All-contains IsPk st.needed.items i.signature st.only_keys wanted_here) refl refl
-  | inr decrypts ↦ brief_made st.params h i b (Dec decrypts.0) x decrypts.1 refl refl
+      brief_made st.params h i b Pk x (All-contains IsPk st.needed.items i.signature st.only_keys wanted_here) refl
+  | inr decrypts ↦ brief_made st.params h i b (Dec decrypts.0) x decrypts.1 refl
 ]
 
-pub brief_honest : (p : Params) (w : Setting) (seeds : List (List ℕ)) (s : State) (h : Store) (id : ℕ) (i : Instance) (b : Brief) → Stands p w seeds s h
-    → instance s.instances id ≡ Some i → IsLive i → IsBriefOf p h i b → b.polys ≡ polys_of w seeds (key_in w seeds s.instances) b.signature
+-- the brief of an instance tells its role
+role_is : (p : Params) (h : Store) (i : Instance) (b : Arc Brief Global) → IsBriefOf p h i b.value → role_told b ≡ role_of i
+role_is p h i b x = rw (x.id, x.signature, x.set, x.round1, x.group) refl
+
+pub brief_honest : (p : Params) (w : Setting) (seeds : List (List ℕ)) (s : State) (h : Store) (id : ℕ) (i : Instance) (b : Arc Brief Global) → Stands p w seeds s h
+    → instance s.instances id ≡ Some i → IsLive i → IsBriefOf p h i b.value → b.value.polys ≡ polys_of w seeds (keys_in w seeds s.instances) (role_told b)
 brief_honest p w seeds s h id i b y found lives x =
     let same : held_polys h i.id ≡ held_polys h id = ap (held_polys h) (instance_id s.instances id i y.kept.numbered found) in
-    x.polys ∙ same ∙ y.honest.told id i found lives ∙ ap (polys_of w seeds (key_in w seeds s.instances)) (sym x.signature)
+    x.polys ∙ same ∙ y.honest.told id i found lives ∙ ap (polys_of w seeds (keys_in w seeds s.instances)) (sym (role_is p h i b x))
 
 -- ---- sums
 
@@ -152,15 +155,15 @@ made_of st es id said (Some a) e replies goes told =
 pub polys_of_if : (p : Params) (w : Setting) (seeds : List (List ℕ)) (s : State) (h : Store) (id : ℕ) (said : Reply) (handed : Option (Arc Brief Global)) → Stands p w seeds s h
     → said ≡ steps.brief s id → IfSome handed (λ a. said ≡ brief_reply a.value)
     → IfSome handed (λ a. (i : Instance) → instance s.instances id ≡ Some i → IsBriefOf p h i a.value)
-    → IfSome handed (λ a. a.value.polys ≡ polys_of w seeds (key_in w seeds s.instances) a.value.signature)
+    → IfSome handed (λ a. a.value.polys ≡ polys_of w seeds (keys_in w seeds s.instances) (role_told a))
 polys_of_if p w seeds s h id said None y replies goes told = tt
 polys_of_if p w seeds s h id said (Some a) y replies goes told =
     let b = has_brief s id a.value (sym replies ∙ goes) in
-    brief_honest p w seeds s h id b.instance_ a.value y b.found b.lives (told b.instance_ b.found)
+    brief_honest p w seeds s h id b.instance_ a y b.found b.lives (told b.instance_ b.found)
 
 pub sums_if : {X T : Type 0} (p : Params) (w : Setting) (seeds : List (List ℕ)) (s : State) (h : Store) (id : ℕ) (read : X → List (List ℕ)) (handed : Option X) → (T → Stands p w seeds s h)
     → IfSome handed (λ x. read x ≡ held_sums h id) → (IsSome handed → IsTrue (is_standing s.instances id))
-    → IfSome handed (λ x. T → (i : Instance) → instance s.instances id ≡ Some i → read x ≡ sums_of w seeds (key_in w seeds s.instances) i)
+    → IfSome handed (λ x. T → (i : Instance) → instance s.instances id ≡ Some i → read x ≡ sums_of w seeds (keys_in w seeds s.instances) i)
 sums_if p w seeds s h id read None y value stands = tt
 sums_if p w seeds s h id read (Some x) y value stands = λ t i found. value ∙ (y t).honest.sums id i found (standing_lives s.instances id i found (stands refl))
 
@@ -213,7 +216,7 @@ unfolding pk_from
 key_fits st es key e made =
     let m = has_made (setting st) (store st) (state st).instances key made in
     let i = m.instance in
-    let found = key_found (state st).instances i m.found in
+    let found = found_is Pk (state st).instances i m.found in
     let at : i.id ≡ found.0.0 + 1 = numbered_at (state st).instances i (kept st es e).numbered found.0 in
     let place : i.id - 1 ≡ found.0.0 = omega arith in
     let sum : IsPoly st.params.q st.params.n (get_or (held_sums (store st) i.id) 0 []) =

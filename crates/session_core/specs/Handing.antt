@@ -3,6 +3,7 @@ use Rattle.std.specs.Prelude.{◌≡◌, ℕ, ◌<◌, List, length, true, Some,
 use Rattle.ring_spec.specs.Pairs.{Cipher, KeyFits}
 use Rattle.proto_names.specs.Instances.{instance}
 use Rattle.proto_names.specs.declared.instance.Instance.{Instance}
+use Rattle.instance_table.specs.Tables.{role_told}
 use Rattle.party_roll.specs.Briefs.{IsBrief}
 use Rattle.session_rules.specs.declared.reply.Reply.{Reply}
 use Rattle.session_rules.specs.declared.reply.Reply.TheVariants as reply
@@ -10,7 +11,7 @@ use Rattle.session_rules.specs.declared.state.CircuitState.TheVariants.{Answered
 use Rattle.session_rules.specs.States.{State, circuit}
 use Rattle.session_rules.specs.Facts.{IsLive, is_settled}
 use Rattle.session_spec.specs.Settings.{plain_at}
-use Rattle.session_spec.specs.Outputs.{key_in, polys_of, inputs_of, output_of, sums_of}
+use Rattle.session_spec.specs.Outputs.{key_in, keys_in, polys_of, inputs_of, output_of, sums_of}
 use Rattle.session_spec.specs.Stores.{Store, held_key}
 use Rattle.session_state.specs.declared.handed.Briefing.{Briefing}
 use Rattle.session_state.specs.declared.handed.Listing.{Listing}
@@ -38,7 +39,7 @@ pub record HandsBrief (id : ℕ) (k : Known) (s : State) (h : Store) (handed : B
   pub goes : IfSome handed.brief (λ a. handed.reply ≡ brief_reply a.value)
   pub made : IfSome handed.brief (λ a. IsBrief k.params a.value)
   pub honest : k.tells ≡ true
-      → IfSome handed.brief (λ a. a.value.polys ≡ polys_of k.setting k.seeds (key_in k.setting k.seeds s.instances) a.value.signature)
+      → IfSome handed.brief (λ a. a.value.polys ≡ polys_of k.setting k.seeds (keys_in k.setting k.seeds s.instances) (role_told a))
 
 -- the job for the circuit that the reply names, and none with Nothing: it can be evaluated, and its inputs are
 -- the encryptions of their values where the seeds are told
@@ -64,10 +65,10 @@ IsAnsweredAt s c = (c < length s.circuits) × (circuit s.circuits c ≡ Answered
 -- plain value
 abbrev pub AreHonestSums : ℕ → Known → State → Store → List (List ℕ) → Type 0
 AreHonestSums id k s h sums =
-    k.tells ≡ true → (i : Instance) → instance s.instances id ≡ Some i → sums ≡ sums_of k.setting k.seeds (key_in k.setting k.seeds s.instances) i
+    k.tells ≡ true → (i : Instance) → instance s.instances id ≡ Some i → sums ≡ sums_of k.setting k.seeds (keys_in k.setting k.seeds s.instances) i
 
 abbrev pub IsHonestOutput : ℕ → Known → State → Store → Cipher → Type 0
-IsHonestOutput c k s h output = k.tells ≡ true → output ≡ output_of k.setting k.seeds (key_in k.setting k.seeds s.instances) c
+IsHonestOutput c k s h output = k.tells ≡ true → output ≡ output_of k.setting k.seeds (keys_in k.setting k.seeds s.instances c) c
 
 abbrev pub IsPlainAnswer : ℕ → Known → State → Store → List ℕ → Type 0
 IsPlainAnswer c k s h answer = k.tells ≡ true → answer ≡ plain_at k.setting c

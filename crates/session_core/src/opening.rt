@@ -1,5 +1,5 @@
 ghost use Rattle.std.specs.Prelude.{◌≡◌, ◌≤◌, true, [], length, All, IfOk};
-ghost use Rattle.session_spec.specs.Settings.{rules, Keeps};
+ghost use Rattle.session_spec.specs.Settings.{rules, Keeps, NeedsNoSwitch};
 ghost use Rattle.session_spec.specs.Stores.{empty};
 ghost use Rattle.session_state.specs.Parts.{setting_by};
 ghost use Rattle.session_core.specs.Sessions.{HasTold, IsModest};
@@ -25,6 +25,7 @@ impl<R: Roll> Session<R> {
         max_calls: u32,
     ) -> Result<Session<R>, AllocError>
         requires keep { All (Keeps ring.value.params) circuits }
+        requires free { NeedsNoSwitch (setting_by ring.value.params (R.public roll) circuits) }
         requires values { R.tells roll ≡ true → All (HasTold ring.value.params) circuits }
         requires few { length circuits ≤ 64 }
         requires modest { IsModest (rules (setting_by ring.value.params (R.public roll) circuits)) }
