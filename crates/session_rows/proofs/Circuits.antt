@@ -1,20 +1,10 @@
 -- What a session has to know of its circuits: in the ring of 8 coefficients modulo 31525197391593473 with
 -- plaintexts modulo 16 or 65537, and in that of 1024 coefficients.
-use Rattle.std.proofs.Common.{◌≡◌, false, [], ◌∷◌, refl}
+use Rattle.std.proofs.Common.{◌≡◌, [], ◌∷◌, refl}
 use Rattle.circuit_form.specs.declared.node.Node.TheVariants.{Input, Const, Add, Mul, Rot}
-use Rattle.param_set.specs.Numbers.{Numbers}
 use Rattle.session_rules.specs.Fixing.{fixed_of}
-use Rattle.session_rows.proofs.Words.{sum_of, product_of, constant, turned_by, any_two, three_circuits, refused_alone, flooded}
+use Rattle.session_rows.proofs.Words.{frame, larger, flooding, linear, sum_of, product_of, constant, turned_by, any_two, three_circuits, refused_alone, flooded}
 use Rattle.session_rows.proofs.Computed.{plans}
-
-abbrev frame : Numbers
-frame = record { n = 8; q = 31525197391593473; t = 16; digit_bits = 8; balanced = false; err = 1; flood = 1; parties = 3; threshold = 2 }
-
-abbrev larger : Numbers
-larger = record { n = 1024; q = 31525197391593473; t = 16; digit_bits = 8; balanced = false; err = 8; flood = 1048576; parties = 3; threshold = 2 }
-
-abbrev flooding : Numbers
-flooding = record { n = 8; q = 31525197391593473; t = 65537; digit_bits = 8; balanced = false; err = 1; flood = 240514433191; parties = 1; threshold = 1 }
 
 -- a sum
 pub sum : fixed_of frame ((Input 1 ∷ Input 2 ∷ Add 0 1 ∷ []) ∷ []) ≡ any_two (sum_of (1 ∷ 2 ∷ []))
@@ -22,11 +12,11 @@ unfolding plans
 sum = refl
 
 -- a product of two inputs, and one with a constant
-pub product : fixed_of frame ((Input 1 ∷ Input 2 ∷ Mul 0 1 ∷ []) ∷ []) ≡ any_two (product_of (1 ∷ 2 ∷ []))
+pub product : fixed_of frame ((Input 1 ∷ Input 2 ∷ Mul 0 1 ∷ []) ∷ []) ≡ any_two (product_of 1 2)
 unfolding plans
 product = refl
 
-pub scaled : fixed_of frame ((Input 1 ∷ Const (1 ∷ []) ∷ Mul 0 1 ∷ []) ∷ []) ≡ any_two (sum_of (1 ∷ []))
+pub scaled : fixed_of frame ((Input 1 ∷ Const (1 ∷ []) ∷ Mul 0 1 ∷ []) ∷ []) ≡ any_two (linear (Input 1 ∷ Const (1 ∷ []) ∷ Mul 0 1 ∷ []) (1 ∷ []) [])
 unfolding plans
 scaled = refl
 
@@ -36,7 +26,7 @@ unfolding plans
 constant_alone = refl
 
 -- a rotation
-pub rotated : fixed_of frame ((Input 1 ∷ Rot 3 0 ∷ []) ∷ []) ≡ any_two (turned_by (3 ∷ []) (1 ∷ []))
+pub rotated : fixed_of frame ((Input 1 ∷ Rot 3 0 ∷ []) ∷ []) ≡ any_two (turned_by 3 1)
 unfolding plans
 rotated = refl
 

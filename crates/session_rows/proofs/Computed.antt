@@ -1,6 +1,5 @@
 -- The definitions that a history is computed with.
 use Rattle.std.specs.Prelude.{⊤}
-use lib.Count.{count_leading_zeros}
 use Rattle.session_rules.specs.States as states
 use Rattle.session_rules.specs.Issues as issues
 use Rattle.session_rules.specs.Deeds as deeds
@@ -9,6 +8,7 @@ use Rattle.session_rules.specs.Histories as histories
 use Rattle.session_rules.specs.Tasks as tasks
 use Rattle.session_rules.specs.Courses as courses
 use Rattle.session_rules.specs.Fixing as fixing
+use Rattle.param_set.specs.Moduli as moduli
 use Rattle.circuit_form.specs.Circuits as circuits
 use Rattle.noise_ledger.specs.Bounds as bounds
 use Rattle.noise_ledger.specs.Ledger as ledger
@@ -45,7 +45,7 @@ rules = tt
 unfoldable pub plans : ⊤
 unfolding
     fixing.begins_as fixing.plan_of fixing.fixed_from
-    count_leading_zeros circuits.owners
+    moduli.digits_up_to moduli.binary_digits circuits.owners
     bounds.switched bounds.crossed bounds.rounding bounds.input_bound bounds.sum_bound bounds.neg_bound
     bounds.plain_mul_bound bounds.rot_bound bounds.mul_bound bounds.output_bound
     ledger.product_bound ledger.node_bound ledger.bounds_from ledger.node_bounds ledger.place_bound

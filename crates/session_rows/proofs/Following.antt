@@ -12,7 +12,7 @@ use Rattle.session_rules.specs.declared.fixed.Fixed.{Fixed}
 use Rattle.session_rules.specs.States.{seen}
 use Rattle.session_rules.specs.Tasks.{Task, does, delivers, gives as gives_input, finishes as evaluates, returns as hands_back, exhausts, Held, Left, next_call, left, own}
 use Rattle.session_rules.specs.Courses.{to_do, Follows, BreaksOff, lane_tasks, Settles, Unsettled, IsSerial, serial_run}
-use Rattle.session_rows.proofs.Words.{sum_of, any_two, one_two, asked, said, joins, leaves, owes, tells, counts, completes, gives, takes, finishes, returns, rests}
+use Rattle.session_rows.proofs.Words.{frame, sum_of, any_two, one_two, asked, said, joins, leaves, owes, tells, counts, completes, gives, takes, finishes, returns, rests}
 use Rattle.session_rows.proofs.Computed.{rules}
 
 -- what is left of a line, with this in hand at first, where the gadget has seven rows
@@ -252,7 +252,7 @@ settled_is_settled u = u
 -- ---- the whole of a script: one party joins, and a lane gives what it hasn't in hand; there is no circuit
 
 abbrev bare : Fixed
-bare = record { threshold = 2; rows = 7; plans = []; turns = [] }
+bare = record { numbers = frame; threshold = 2; rows = 7; plans = []; turns = [] }
 
 pub serial_calls : IsSerial bare (1 ∷ []) ((line.Give ∷ []) ∷ []) (joins 1 ∷ [])
 unfolding rules

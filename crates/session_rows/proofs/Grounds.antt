@@ -16,7 +16,7 @@ use Rattle.session_rules.specs.Facts.{is_begun}
 use Rattle.session_rules.specs.Grounds.{Grounded, IsWhole, NoneOpened, GaveAll, CanSettle}
 use Rattle.session_rules.proofs.Grounds.{state_grounds}
 use Rattle.session_rules.proofs.Contained.{contains_nil, contains_cases}
-use Rattle.session_rows.proofs.Words.{turned_by, session, any_two, none, one_two, issued}
+use Rattle.session_rows.proofs.Words.{constant, turned_by, session, any_two, none, one_two, issued}
 use Rattle.session_rows.proofs.Facts.{adding, waiting, complete, history, reached, history_leads}
 use Rattle.session_rows.proofs.Computed.{rules}
 
@@ -30,7 +30,7 @@ alone x y m = elim (contains_cases x [] y m) [
 ]
 
 abbrev turning : Fixed
-turning = session 2 (turned_by (3 ∷ []) (1 ∷ []))
+turning = session 2 (turned_by 3 1)
 
 begins_idle : (c : ℕ) → c < 1 → is_begun (plan turning c).opening ≡ false
 begins_idle zero l = refl
@@ -57,7 +57,7 @@ turn_is_wanting w = contains_nil 3 (w.turns 0 3 (omega arith) refl (0, omega ari
 pub turn_too_many : IsWhole (record turning { turns = 3 ∷ 5 ∷ [] }) → ⊥
 turn_too_many w = let t = w.turned 5 (1, omega arith, refl) in turn_at t.0 t.1 t.3
 
-pub begins_taken : IsWhole (any_two (record { nodes = []; owners = []; product = false; turns = []; opening = Taken 1 })) → ⊥
+pub begins_taken : IsWhole (any_two (record constant { opening = Taken 1 })) → ⊥
 begins_taken w = true≢false (w.begins 0 (omega arith))
 
 -- ---- states that calls lead to

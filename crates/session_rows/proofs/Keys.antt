@@ -9,7 +9,7 @@ use Rattle.session_rows.proofs.Words.{product_of, turned_by, too_noisy, session,
 use Rattle.session_rows.proofs.Computed.{rules}
 
 -- the inputs of two parties are multiplied: the key for it takes two rounds of the same parties
-pub multiplies : Comes (any_two (product_of (1 ∷ 2 ∷ []))) all_three [] (
+pub multiplies : Comes (any_two (product_of 1 2)) all_three [] (
     joins 1 ∷ joins 2 ∷ joins 3 ∷
     owes 1 (1 ∷ 2 ∷ []) [] ∷ tells 1 Pk one_two ∷ counts 1 1 1 1 ∷ tells 2 Rlk1 one_two ∷ counts 2 1 14 1 ∷
     owes 2 (1 ∷ 2 ∷ []) [] ∷ tells 1 Pk one_two ∷ completes 1 2 1 ∷ tells 2 Rlk1 one_two ∷ completes 2 2 14 ∷
@@ -30,7 +30,7 @@ unfolding rules
 multiplies = (refl, refl, refl)
 
 -- an input is rotated by 3
-pub rotates : Comes (any_two (turned_by (3 ∷ []) (1 ∷ []))) all_three [] (
+pub rotates : Comes (any_two (turned_by 3 1)) all_three [] (
     joins 1 ∷ joins 2 ∷ joins 3 ∷
     owes 1 (1 ∷ 2 ∷ []) [] ∷ tells 1 Pk one_two ∷ counts 1 1 1 1 ∷ tells 2 (Rot 3) one_two ∷ counts 2 1 7 1 ∷
     owes 2 (1 ∷ 2 ∷ []) [] ∷ tells 1 Pk one_two ∷ completes 1 2 1 ∷ tells 2 (Rot 3) one_two ∷
@@ -52,7 +52,7 @@ rotates = (refl, refl, refl)
 
 -- party 2 is lost after the first round for a product is complete: both rounds are given up, and are issued
 -- anew to others
-pub loses_between_rounds : Comes (any_two (product_of (1 ∷ 3 ∷ []))) all_three ((line.Send 1 ∷ line.Send 2 ∷ line.Lose 2 ∷ []) ∷ []) (
+pub loses_between_rounds : Comes (any_two (product_of 1 3)) all_three ((line.Send 1 ∷ line.Send 2 ∷ line.Lose 2 ∷ []) ∷ []) (
     joins 1 ∷ joins 2 ∷ joins 3 ∷
     owes 1 (1 ∷ 2 ∷ []) [] ∷ tells 1 Pk one_two ∷ counts 1 1 1 1 ∷ tells 2 Rlk1 one_two ∷ counts 2 1 14 1 ∷
     owes 2 (1 ∷ 2 ∷ []) [] ∷ tells 1 Pk one_two ∷ completes 1 2 1 ∷ tells 2 Rlk1 one_two ∷ completes 2 2 14 ∷
@@ -78,7 +78,7 @@ loses_between_rounds = (refl, refl, refl)
 
 -- party 1 gives its share of the first round and is lost, and then the round is completed: it is given up,
 -- since its second round wants the same parties
-pub loses_after_first_round : Comes (any_two (product_of (2 ∷ 3 ∷ []))) all_three ((line.Send 1 ∷ line.Lose 1 ∷ line.Send 2 ∷ []) ∷ []) (
+pub loses_after_first_round : Comes (any_two (product_of 2 3)) all_three ((line.Send 1 ∷ line.Lose 1 ∷ line.Send 2 ∷ []) ∷ []) (
     joins 1 ∷ joins 2 ∷ joins 3 ∷
     owes 1 (1 ∷ 2 ∷ []) [] ∷ tells 1 Pk one_two ∷ counts 1 1 1 1 ∷ tells 2 Rlk1 one_two ∷ counts 2 1 14 1 ∷
     leaves 1 ∷
@@ -103,7 +103,7 @@ loses_after_first_round = (refl, refl, refl)
 
 -- all three parties act; two give their shares of the first round and are lost, and then it is completed: it
 -- is given up by the lesser of the two
-pub loses_two_after_first_round : Comes (session 3 (product_of (1 ∷ 2 ∷ []))) all_three ((line.Send 1 ∷ line.Send 2 ∷ line.Lose 2 ∷ line.Lose 1 ∷ line.Send 3 ∷ line.Join 2 ∷ line.Join 1 ∷ []) ∷ []) (
+pub loses_two_after_first_round : Comes (session 3 (product_of 1 2)) all_three ((line.Send 1 ∷ line.Send 2 ∷ line.Lose 2 ∷ line.Lose 1 ∷ line.Send 3 ∷ line.Join 2 ∷ line.Join 1 ∷ []) ∷ []) (
     joins 1 ∷ joins 2 ∷ joins 3 ∷
     owes 1 (1 ∷ 2 ∷ []) [] ∷ tells 1 Pk (parties 7) ∷ counts 1 1 1 2 ∷ tells 2 Rlk1 (parties 7) ∷
     counts 2 1 14 2 ∷
@@ -136,7 +136,7 @@ loses_two_after_first_round = (refl, refl, refl)
 
 -- party 1 gave its share of the second round and is lost, and then party 2, which lacks it: both rounds are
 -- given up by party 2
-pub loses_in_second_round : Comes (any_two (product_of (1 ∷ 2 ∷ []))) all_three ((line.Send 1 ∷ line.Send 2 ∷ line.Send 1 ∷ line.Lose 1 ∷ line.Lose 2 ∷ line.Join 1 ∷ line.Join 2 ∷ []) ∷ []) (
+pub loses_in_second_round : Comes (any_two (product_of 1 2)) all_three ((line.Send 1 ∷ line.Send 2 ∷ line.Send 1 ∷ line.Lose 1 ∷ line.Lose 2 ∷ line.Join 1 ∷ line.Join 2 ∷ []) ∷ []) (
     joins 1 ∷ joins 2 ∷ joins 3 ∷
     owes 1 (1 ∷ 2 ∷ []) [] ∷ tells 1 Pk one_two ∷ counts 1 1 1 1 ∷ tells 2 Rlk1 one_two ∷ counts 2 1 14 1 ∷
     owes 2 (1 ∷ 2 ∷ []) [] ∷ tells 1 Pk one_two ∷ completes 1 2 1 ∷ tells 2 Rlk1 one_two ∷ completes 2 2 14 ∷
@@ -164,7 +164,7 @@ unfolding rules
 loses_in_second_round = (refl, refl, refl)
 
 -- party 2 is lost once both rounds are complete: both stay
-pub keeps_a_complete_key : Comes (any_two (product_of (1 ∷ 3 ∷ []))) all_three ((line.Send 1 ∷ line.Send 2 ∷ line.Send 1 ∷ line.Send 2 ∷ line.Lose 2 ∷ []) ∷ []) (
+pub keeps_a_complete_key : Comes (any_two (product_of 1 3)) all_three ((line.Send 1 ∷ line.Send 2 ∷ line.Send 1 ∷ line.Send 2 ∷ line.Lose 2 ∷ []) ∷ []) (
     joins 1 ∷ joins 2 ∷ joins 3 ∷
     owes 1 (1 ∷ 2 ∷ []) [] ∷ tells 1 Pk one_two ∷ counts 1 1 1 1 ∷ tells 2 Rlk1 one_two ∷ counts 2 1 14 1 ∷
     owes 2 (1 ∷ 2 ∷ []) [] ∷ tells 1 Pk one_two ∷ completes 1 2 1 ∷ tells 2 Rlk1 one_two ∷ completes 2 2 14 ∷
@@ -187,7 +187,7 @@ keeps_a_complete_key = (refl, refl, refl)
 
 -- the public key is complete and the input is given before the key of the rotation is: the circuit is not
 -- ready
-pub waits_for_a_rotation : Comes (any_two (turned_by (3 ∷ []) (1 ∷ []))) all_three ((line.Hold 1 1 ∷ line.Give ∷ line.Hold 2 1 ∷ line.Give ∷ line.Send 1 ∷ line.Work ∷ []) ∷ []) (
+pub waits_for_a_rotation : Comes (any_two (turned_by 3 1)) all_three ((line.Hold 1 1 ∷ line.Give ∷ line.Hold 2 1 ∷ line.Give ∷ line.Send 1 ∷ line.Work ∷ []) ∷ []) (
     joins 1 ∷ joins 2 ∷ joins 3 ∷
     tells 1 Pk one_two ∷ counts 1 1 1 1 ∷ tells 1 Pk one_two ∷ completes 1 2 1 ∷
     owes 1 (2 ∷ []) ((0, 0) ∷ []) ∷ tells 2 (Rot 3) one_two ∷ counts 2 1 7 1 ∷ gives 0 0 ∷

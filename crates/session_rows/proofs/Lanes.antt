@@ -132,7 +132,7 @@ holds_one_lane_long = (refl, refl, refl)
 
 -- four lanes and two of three lines of work, one after the other, for a product: party 2 and party 3 are
 -- lost and join again, and party 1 holds a share of an instance that was given up
-pub serves_lanes : Comes (any_two (product_of (1 ∷ 2 ∷ []))) all_three ((line.Send 1 ∷ line.Lose 2 ∷ line.Join 2 ∷ []) ∷ (line.Send 2 ∷ line.Send 3 ∷ []) ∷ (line.Lose 3 ∷ line.Join 3 ∷ []) ∷ (line.Hold 1 1 ∷ line.Give ∷ line.Give ∷ []) ∷ (line.Work ∷ line.Work ∷ line.Work ∷ []) ∷ (line.Work ∷ line.Work ∷ line.Work ∷ []) ∷ []) (
+pub serves_lanes : Comes (any_two (product_of 1 2)) all_three ((line.Send 1 ∷ line.Lose 2 ∷ line.Join 2 ∷ []) ∷ (line.Send 2 ∷ line.Send 3 ∷ []) ∷ (line.Lose 3 ∷ line.Join 3 ∷ []) ∷ (line.Hold 1 1 ∷ line.Give ∷ line.Give ∷ []) ∷ (line.Work ∷ line.Work ∷ line.Work ∷ []) ∷ (line.Work ∷ line.Work ∷ line.Work ∷ []) ∷ []) (
     joins 1 ∷ joins 2 ∷ joins 3 ∷
     owes 1 (1 ∷ 2 ∷ []) [] ∷ tells 1 Pk one_two ∷ counts 1 1 1 1 ∷ tells 2 Rlk1 one_two ∷ counts 2 1 14 1 ∷
     leaves 2 ∷ joins 2 ∷

@@ -78,7 +78,7 @@ sender_is_lost = refl
 
 -- a second round is lost together with its first, which is complete
 abbrev multiplying : Fixed
-multiplying = any_two (product_of (1 ∷ 2 ∷ []))
+multiplying = any_two (product_of 1 2)
 
 pub both_rounds_are_lost : done multiplying (Loses 2) (early 7 (complete ∷ issued 2 Rlk1 one_two 1 one_two Complete 0 ∷ issued 3 Rlk2 one_two 1 one Opened 2 ∷ []))
     ≡ early 5 (complete ∷ issued 2 Rlk1 one_two 1 one_two (Void 2) 0 ∷ issued 3 Rlk2 one_two 1 one (Void 2) 2 ∷ issued 4 Rlk1 one_three 2 none Opened 0 ∷ [])

@@ -1,10 +1,13 @@
--- Short words for scripts, for the calls of caller 0 with their replies, and for the instances of a session.
-use Rattle.std.specs.Prelude.{◌≡◌, ℕ, List, [], ◌∷◌, true, false}
+-- Short words for numbers of parameters, for scripts, for the calls of caller 0 with their replies, and for the instances of a session.
+use Rattle.std.specs.Prelude.{◌≡◌, ℕ, List, [], ◌∷◌, ◌++◌, map, true, false}
+use Rattle.param_set.specs.Numbers.{Numbers}
+use Rattle.circuit_form.specs.declared.node.Node.{Node}
+use Rattle.circuit_form.specs.declared.node.Node.TheVariants.{Input, Const, Add, Mul, Rot}
 use Rattle.proto_names.specs.declared.signature.Signature.{Signature}
 use Rattle.proto_names.specs.declared.sets.PartySet.{PartySet}
 use Rattle.proto_names.specs.declared.instance.Instance.{Instance}
 use Rattle.proto_names.specs.declared.instance.Stage.{Stage}
-use Rattle.noise_ledger.specs.declared.over.Place.TheVariants.{Node, Output}
+use Rattle.noise_ledger.specs.declared.over.Place.TheVariants as place
 use Rattle.session_rules.specs.declared.call.Call.{Call}
 use Rattle.session_rules.specs.declared.call.Call.TheVariants as call
 use Rattle.session_rules.specs.declared.call.Entry.{Entry}
@@ -19,34 +22,69 @@ use Rattle.session_rules.specs.States.{State}
 use Rattle.session_rules.specs.Histories.{state_after, IsLegal}
 use Rattle.session_rules.specs.Courses.{serial_run}
 
+-- ---- numbers
+
+-- those of a ring of 8 coefficients modulo 31525197391593473, with plaintexts modulo 16, where two of three parties act
+abbrev pub frame : Numbers
+frame = record { n = 8; q = 31525197391593473; t = 16; digit_bits = 8; balanced = false; err = 1; flood = 1; parties = 3; threshold = 2 }
+
+-- those of a ring of 1024 coefficients
+abbrev pub larger : Numbers
+larger = record { n = 1024; q = 31525197391593473; t = 16; digit_bits = 8; balanced = false; err = 8; flood = 1048576; parties = 3; threshold = 2 }
+
+-- those of one party, with plaintexts modulo 65537, where the flood of a decryption is above the limit
+abbrev pub flooding : Numbers
+flooding = record { n = 8; q = 31525197391593473; t = 65537; digit_bits = 8; balanced = false; err = 1; flood = 240514433191; parties = 1; threshold = 1 }
+
 -- ---- scripts
 
--- a circuit of the inputs of some parties, without a product of two of them
-abbrev pub sum_of : List ℕ → Plan
-sum_of owners = record { nodes = []; owners = owners; product = false; turns = []; opening = Idle }
+-- an admitted circuit without a product of two of its inputs: its nodes, the owners of its inputs and its rotations
+abbrev pub linear : List Node → List ℕ → List ℕ → Plan
+linear nodes owners turns = record { nodes = nodes; owners = owners; product = false; turns = turns; opening = Idle }
 
--- a circuit with a product of inputs
-abbrev pub product_of : List ℕ → Plan
-product_of owners = record { nodes = []; owners = owners; product = true; turns = []; opening = Idle }
+-- the sum of the first two inputs, where there are two and no more
+abbrev pub added : List ℕ → List Node
+added (a ∷ b ∷ []) = Add 0 1 ∷ []
+added owners = []
+
+-- the inputs of some parties, and of two their sum
+abbrev pub sum_of : List ℕ → Plan
+sum_of owners = linear (map Input owners ++ added owners) owners []
+
+-- the product of the inputs of two parties
+abbrev pub product_of : ℕ → ℕ → Plan
+product_of a b = record { nodes = Input a ∷ Input b ∷ Mul 0 1 ∷ []; owners = a ∷ b ∷ []; product = true; turns = []; opening = Idle }
 
 -- a constant
 abbrev pub constant : Plan
-constant = sum_of []
+constant = linear (Const (7 ∷ []) ∷ []) [] []
 
--- a circuit of inputs with rotations
-abbrev pub turned_by : List ℕ → List ℕ → Plan
-turned_by turns owners = record { nodes = []; owners = owners; product = false; turns = turns; opening = Idle }
+-- a rotation by g of a party's input
+abbrev pub turned_by : ℕ → ℕ → Plan
+turned_by g owner = linear (Input owner ∷ Rot g 0 ∷ []) (owner ∷ []) (g ∷ [])
 
 -- a product of products that are rotated between, whose last node has too much noise
 abbrev pub too_noisy : CircuitState
-too_noisy = Refused (Node 6) 62170732878577645 985162418487295
+too_noisy = Refused (place.Node 6) 62170732878577645 985162418487295
 
 abbrev pub noisy : Plan
-noisy = record { nodes = []; owners = 1 ∷ 2 ∷ []; product = true; turns = 7 ∷ []; opening = too_noisy }
+noisy = record {
+  nodes = Input 1 ∷ Input 2 ∷ Mul 0 1 ∷ Mul 2 2 ∷ Mul 3 3 ∷ Rot 7 4 ∷ Mul 5 5 ∷ [];
+  owners = 1 ∷ 2 ∷ [];
+  product = true;
+  turns = 7 ∷ [];
+  opening = too_noisy;
+}
 
 -- one circuit, of T parties that act, with a gadget of 7 rows
 abbrev pub session : ℕ → Plan → Fixed
-session threshold plan = record { threshold = threshold; rows = 7; plans = plan ∷ []; turns = plan.turns }
+session threshold plan = record {
+  numbers = record frame { threshold = threshold };
+  threshold = threshold;
+  rows = 7;
+  plans = plan ∷ [];
+  turns = plan.turns;
+}
 
 -- one of which any two parties act
 abbrev pub any_two : Plan → Fixed
@@ -55,23 +93,28 @@ any_two plan = session 2 plan
 -- three circuits of which any two parties act, the first of them refused
 abbrev pub three_circuits : Fixed
 three_circuits = record {
+  numbers = frame;
   threshold = 2;
   rows = 7;
-  plans = noisy ∷ turned_by (3 ∷ 5 ∷ []) (3 ∷ []) ∷ turned_by (3 ∷ []) (3 ∷ 3 ∷ []) ∷ [];
+  plans =
+      noisy ∷
+      linear (Input 3 ∷ Rot 5 0 ∷ Rot 3 1 ∷ Rot 5 2 ∷ []) (3 ∷ []) (3 ∷ 5 ∷ []) ∷
+      linear (Input 3 ∷ Input 3 ∷ Add 0 1 ∷ Rot 3 2 ∷ []) (3 ∷ 3 ∷ []) (3 ∷ []) ∷ [];
   turns = 3 ∷ 5 ∷ [];
 }
 
 -- one circuit with a product of a product, which is refused in a larger ring
 abbrev pub refused_alone : Fixed
 refused_alone = record {
+  numbers = larger;
   threshold = 2;
   rows = 7;
   plans = record {
-    nodes = [];
+    nodes = Input 1 ∷ Input 2 ∷ Mul 0 1 ∷ Mul 2 2 ∷ [];
     owners = 1 ∷ 2 ∷ [];
     product = true;
     turns = [];
-    opening = Refused (Node 3) 111605518906659599873 985162418487295;
+    opening = Refused (place.Node 3) 111605518906659599873 985162418487295;
   } ∷ [];
   turns = [];
 }
@@ -79,9 +122,10 @@ refused_alone = record {
 -- one constant and one party, where the flood of a decryption is above the limit
 abbrev pub flooded : Fixed
 flooded = record {
+  numbers = flooding;
   threshold = 1;
   rows = 7;
-  plans = record { nodes = []; owners = []; product = false; turns = []; opening = Refused Output 240514433191 240514433190 } ∷ [];
+  plans = record constant { opening = Refused place.Output 240514433191 240514433190 } ∷ [];
   turns = [];
 }
 
