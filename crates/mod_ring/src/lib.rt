@@ -7,7 +7,8 @@
 //! the transforms of `ring_ntt`, whose tables a `Ring` holds. What is multiplied often is kept transformed, a
 //! `Transformed`, and a `ProductSum` adds products of these, reduces once and goes back once; contracts see
 //! both by the polynomial that they stand for. `phi` puts X^g for X. Every call has the condition that the
-//! polynomials which it takes fit the ring. Nothing is said of time.
+//! polynomials which it takes fit the ring. A `Ring` also lends tables modulo two fixed primes, for products
+//! over the whole numbers. Nothing is said of time.
 #![tactic(auto)]
 
 mod entries;
@@ -22,7 +23,6 @@ mod transformed;
 mod turns;
 mod wide_sums;
 
-pub use fixed_primes::whole_tables;
 pub use mod_inverse::inverse;
 pub use pairs::{Ciphertext, PublicKey};
 pub use poly::{Poly, Polys};

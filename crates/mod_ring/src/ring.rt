@@ -11,7 +11,7 @@ use ring_ntt::Tables;
 use std::alloc::{AllocError, Global};
 
 /// The ring of some parameters, in which polynomials have n coefficients below q, with the tables of its
-/// transforms.
+/// transforms and of those for products over the whole numbers.
 #[derive(Drop)]
 pub struct Ring {
     params: Tabled,
@@ -40,6 +40,14 @@ impl Ring {
         ensures root { result.now.root ≡ self.now.params.psi }
     {
         self.params.tables()
+    }
+
+    /// The tables of transforms modulo two fixed primes of 62 bits, for products over the whole numbers.
+    pub fn whole_tables(&self) -> (&Tables, &Tables)
+        ensures first { (result.0.now.modulus ≡ 4611686018427322369) × (result.0.now.length ≡ self.now.params.n) }
+        ensures second { (result.1.now.modulus ≡ 4611686018427289601) × (result.1.now.length ≡ self.now.params.n) }
+    {
+        self.params.whole_tables()
     }
 }
 
