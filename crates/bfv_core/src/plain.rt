@@ -1,5 +1,6 @@
 ghost use Rattle.std.specs.Prelude.{◌≡◌, ℕ, ◌+◌, ◌*◌, ◌/◌, ◌^◌, ◌<◌, ◌≤◌, All, length, IfOk};
 ghost use Rattle.mod_ring.specs.Fits.{Fits};
+ghost use Rattle.ring_spec.specs.Ring.{IsPoly};
 ghost use Rattle.bfv_spec.specs.Scheme.{decryption, rounded};
 
 use mod_ring::{Poly, Ring};
@@ -33,9 +34,11 @@ fn rounded_of(factor: &Factor, q: u64, t: u64, x: u64) -> u64
 }
 
 /// The plaintext of a phase: each coefficient x gives t * x / q to the nearest whole number, modulo t.
+#[tactic(auto, using(crate::proofs::Opened::opened_fits))]
 pub fn round_phase(alloc: Global, ring: &Ring, phase: &Poly) -> Result<Plain, AllocError>
     requires { Fits ring.now phase.now }
-    ensures { IfOk result (λ m. m ≡ decryption ring.now.params.q ring.now.params.t phase.now) }
+    ensures value { IfOk result (λ m. m ≡ decryption ring.now.params.q ring.now.params.t phase.now) }
+    ensures fits { IfOk result (λ m. IsPoly ring.now.params.t ring.now.params.n m) }
 {
     let q = ring.params().q();
     let t = ring.params().t();

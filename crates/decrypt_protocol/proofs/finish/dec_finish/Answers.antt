@@ -1,12 +1,7 @@
 -- The phase is the sum of the first part and the row.
 use Rattle.std.proofs.Common.{[], slice_index_or, arith, rules}
-use Rattle.decrypt_protocol.proofs.Together.{opened-fits, opens-for-all}
+use Rattle.decrypt_protocol.proofs.Together.{opens-for-all}
 use Rattle.decrypt_protocol.proofs.finish.dec_finish.Goals as goal
-
-pub returns-clause-fits : goal.returns-clause-fits
-returns-clause-fits c =
-    let p = c.args.ring.now.params in
-    opened-fits p.q p.n p.t c.add_into.new.acc c.in_ok-opened.opened (omega arith) c.add_into.ensures.fits c.in_ok-opened.ensures
 
 pub returns-clause-together : goal.returns-clause-together
 returns-clause-together c =
