@@ -1,7 +1,7 @@
 //! Each call once, from the key of 32 zeros and stream 0, whose words RFC 8439 prints in appendix
 //! A.1, vectors 1 and 2.
+use crate::common::frame;
 use mod_ring::Ring;
-use param_set::Params;
 use ring_draws::{small, ternary, uniform, wide};
 use std::test::Fail;
 use word_tape::Tape;
@@ -10,7 +10,7 @@ const Q: u64 = 31_525_197_391_593_473;
 
 #[test]
 fn draws_coefficients_in_order(rt: HostRuntime) -> Result<(), Fail> {
-    let ring = Ring::new(rt.alloc(), &Params::frame(1, 1))?;
+    let ring = Ring::new(rt.alloc(), &frame(1, 1)?)?;
     let mut tape = Tape::new([0; 32], 0);
     let drawn = uniform(rt.alloc(), &ring, &mut tape)?;
     assert_eq!(rt;
@@ -32,7 +32,7 @@ fn draws_coefficients_in_order(rt: HostRuntime) -> Result<(), Fail> {
 
 #[test]
 fn draws_small_coefficients(rt: HostRuntime) -> Result<(), Fail> {
-    let ring = Ring::new(rt.alloc(), &Params::frame(1, 1))?;
+    let ring = Ring::new(rt.alloc(), &frame(1, 1)?)?;
     let mut tape = Tape::new([0; 32], 0);
     let drawn = small(rt.alloc(), &ring, 3, &mut tape)?;
     assert_eq!(rt;
@@ -44,7 +44,7 @@ fn draws_small_coefficients(rt: HostRuntime) -> Result<(), Fail> {
 
 #[test]
 fn draws_ternary_coefficients(rt: HostRuntime) -> Result<(), Fail> {
-    let ring = Ring::new(rt.alloc(), &Params::frame(1, 1))?;
+    let ring = Ring::new(rt.alloc(), &frame(1, 1)?)?;
     let mut tape = Tape::new([0; 32], 0);
     let drawn = ternary(rt.alloc(), &ring, &mut tape)?;
     assert_eq!(rt;
@@ -56,7 +56,7 @@ fn draws_ternary_coefficients(rt: HostRuntime) -> Result<(), Fail> {
 
 #[test]
 fn draws_wide_coefficients(rt: HostRuntime) -> Result<(), Fail> {
-    let ring = Ring::new(rt.alloc(), &Params::frame(1, 1))?;
+    let ring = Ring::new(rt.alloc(), &frame(1, 1)?)?;
     let mut tape = Tape::new([0; 32], 0);
     let drawn = wide(rt.alloc(), &ring, 1_099_511_627_776, &mut tape)?;
     assert_eq!(rt;

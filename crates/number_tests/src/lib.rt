@@ -1,9 +1,11 @@
 //! The tests of the crates of words, numbers and polynomials, each against values from outside.
 //!
-//! A file a subject. They stand apart from the crates that they are about because a crate with tests is proved
-//! twice. No code stands here, and nothing else uses this crate.
+//! A file a subject, and in `common` the parameters of most. They stand apart from the crates that they are about
+//! because a crate with tests is proved twice. No code stands here, and nothing else uses this crate.
 #![tactic(auto)]
 
+#[cfg(test)]
+mod common;
 #[cfg(test)]
 mod draws;
 #[cfg(test)]

@@ -1,6 +1,7 @@
 //! Each call once, the parameters against numbers worked out by hand.
 ghost use Rattle.std.specs.Prelude.{◌≡◌, length, IfOk};
 
+use crate::common::frame;
 use param_set::{Field, Ids, ParamFault, Params, Plain, Plains, RawParams, Slots};
 use std::alloc::{AllocError, Global};
 use std::test::Fail;
@@ -20,10 +21,9 @@ const FRAME: RawParams = RawParams {
 #[test]
 fn reads_the_frame(rt: HostRuntime) -> Result<(), Fail> {
     for (balanced, params) in [
-        (false, Params::frame(3, 2)),
-        (false, Params::check(&FRAME)?),
-        (true, Params::frame(3, 2).balanced()),
-        (true, Params::check(&FRAME)?.balanced().balanced()),
+        (false, frame(3, 2)?),
+        (true, frame(3, 2)?.balanced()),
+        (true, frame(3, 2)?.balanced().balanced()),
     ] {
         assert_eq!(rt; params.is_balanced(), balanced);
         for (name, value, wanted) in [

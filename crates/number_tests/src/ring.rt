@@ -2,6 +2,7 @@
 ghost use Rattle.std.specs.Prelude.{◌≡◌, ◌<◌, length, IfOk};
 ghost use Rattle.mod_ring.specs.Fits.{Fits};
 
+use crate::common::frame;
 use crate::schoolbook::schoolbook;
 use mod_ring::{
     Poly, Polys, Ring, add_into, centre, mul, neg_into, of_residues, of_signed, phi, residue_of,
@@ -55,7 +56,7 @@ fn changes<R: Abort>(rt: &R, ring: &Ring, acc: &mut Poly, f: &Poly, g: &Poly)
 
 #[test]
 fn computes_in_the_ring(rt: HostRuntime) -> Result<(), Fail> {
-    let ring = Ring::new(rt.alloc(), &Params::frame(1, 1))?;
+    let ring = Ring::new(rt.alloc(), &frame(1, 1)?)?;
     assert_eq!(rt; ring.params().q(), Q);
     let f = first(rt.alloc(), &ring)?;
     let g = last(rt.alloc(), &ring)?;
@@ -76,7 +77,7 @@ fn x(alloc: Global, ring: &Ring) -> Result<Poly, AllocError>
 
 #[test]
 fn wraps_around_with_the_sign_changed(rt: HostRuntime) -> Result<(), Fail> {
-    let params = Params::frame(1, 1);
+    let params = frame(1, 1)?;
     let ring = Ring::new(rt.alloc(), &params)?;
     let x = x(rt.alloc(), &ring)?;
     let x7 = of_residues(&params, vec![in rt.alloc(); 0, 0, 0, 0, 0, 0, 0, 1]?);
@@ -95,7 +96,7 @@ fn two_powers(alloc: Global, ring: &Ring) -> Result<Poly, AllocError>
 
 #[test]
 fn puts_a_power_for_x(rt: HostRuntime) -> Result<(), Fail> {
-    let ring = Ring::new(rt.alloc(), &Params::frame(1, 1))?;
+    let ring = Ring::new(rt.alloc(), &frame(1, 1)?)?;
     let f = two_powers(rt.alloc(), &ring)?;
     // X^9 is -X, and X^15 is -X^7
     let image = phi(rt.alloc(), &ring, 3, &f)?;
@@ -146,10 +147,10 @@ fn multiplies_as_by_the_definition(rt: HostRuntime) -> Result<(), Fail> {
 }
 
 /// X and -1.
-fn two(alloc: Global) -> Result<Polys, AllocError>
+fn two(alloc: Global) -> Result<Polys, Fail>
     ensures { IfOk result (λ list. length list ≡ 2) }
 {
-    let ring = Ring::new(alloc, &Params::frame(1, 1))?;
+    let ring = Ring::new(alloc, &frame(1, 1)?)?;
     let mut list = Polys::new(alloc);
     list.push(x(alloc, &ring)?)?;
     list.push(of_signed(alloc, &ring, &[-1, 0, 0, 0, 0, 0, 0, 0])?)?;

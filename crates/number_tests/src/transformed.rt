@@ -3,6 +3,7 @@
 ghost use Rattle.std.specs.Prelude.{◌≡◌, ◌<◌, IfOk};
 ghost use Rattle.mod_ring.specs.Fits.{Fits};
 
+use crate::common::frame;
 use mod_ring::{Poly, ProductSum, Ring, Transformed, add_into, mul, scale_into};
 use param_set::{Params, RawParams};
 use ring_draws::uniform;
@@ -111,7 +112,7 @@ fn stands_for_its_polynomial(rt: HostRuntime) -> Result<(), Fail> {
 
 #[test]
 fn counts_its_terms(rt: HostRuntime) -> Result<(), Fail> {
-    let ring = Ring::new(rt.alloc(), &Params::frame(1, 1))?;
+    let ring = Ring::new(rt.alloc(), &frame(1, 1)?)?;
     let sum = ProductSum::new(rt.alloc(), &ring)?;
     assert_eq!(rt; sum.terms(), 0);
     let zero = sum.into_poly(rt.alloc(), &ring)?;
