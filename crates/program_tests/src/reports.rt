@@ -1,11 +1,12 @@
 //! The lines, checks and refusals that are printed, against texts written by hand and digests made by another SHA-256.
-ghost use Rattle.std.specs.Prelude.{IfOk};
+ghost use Rattle.std.specs.Prelude.{◌≡◌, false, IfOk};
+ghost use Rattle.param_set.specs.Numbers.{numbers_of};
 ghost use Rattle.session_script.specs.Kept.{IsAccepted};
 ghost use Rattle.session_script.specs.Scripts.{asked};
 
 use mod_ring::{Ciphertext, Polys, Ring, of_signed};
 use noise_ledger::{Over, Place};
-use param_set::{Field, Params, Plain};
+use param_set::{Field, ParamFault, Params, Plain, RawParams};
 use run_report::{
     check_text, circuit_line, open_line, output_line, polys_digest, refusal_line, refused_line,
 };
@@ -53,9 +54,37 @@ fn values(rt: HostRuntime) -> Result<(), Fail> {
     Ok(())
 }
 
+// n = 8, q = 7 * 2^52 + 1, t = 16, digits of 8 bits that aren't balanced, and noise and flood within 1, for
+// `threshold` of `parties` parties.
+fn frame(parties: u64, threshold: u64) -> Result<Params, ParamFault>
+    ensures { IfOk result (λ params. numbers_of params ≡ record {
+      n = 8;
+      q = 31525197391593473;
+      t = 16;
+      digit_bits = 8;
+      balanced = false;
+      err = 1;
+      flood = 1;
+      parties = parties;
+      threshold = threshold;
+    }) }
+{
+    Params::check(&RawParams {
+        n: 8,
+        q: 31_525_197_391_593_473,
+        t: 16,
+        root: 3,
+        digit_bits: 8,
+        err: 1,
+        flood: 1,
+        parties,
+        threshold,
+    })
+}
+
 // The ciphertext of both.
-fn output(alloc: Global) -> Result<Ciphertext, AllocError> {
-    let ring = Ring::new(alloc, &Params::frame(3, 2))?;
+fn output(alloc: Global) -> Result<Ciphertext, Fail> {
+    let ring = Ring::new(alloc, &frame(3, 2)?)?;
     let c0 = of_signed(alloc, &ring, &FIRST)?;
     let c1 = of_signed(alloc, &ring, &SECOND)?;
     Ok(Ciphertext { c0, c1 })
@@ -72,8 +101,8 @@ fn digests(rt: HostRuntime) -> Result<(), Fail> {
 }
 
 // Three rows.
-fn rows(alloc: Global) -> Result<Polys, AllocError> {
-    let ring = Ring::new(alloc, &Params::frame(3, 2))?;
+fn rows(alloc: Global) -> Result<Polys, Fail> {
+    let ring = Ring::new(alloc, &frame(3, 2)?)?;
     let mut sums = Polys::new(alloc);
     for row in [&SECOND, &FIRST, &SECOND] {
         sums.push(of_signed(alloc, &ring, row)?)?;

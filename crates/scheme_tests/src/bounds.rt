@@ -1,6 +1,7 @@
 //! Bounds at n = 8, t = 16 and small draws within 1 against numbers worked out apart.
 ghost use Rattle.std.specs.Prelude.{◌≤◌};
 
+use crate::common::frame;
 use circuit_form::{Circuit, Node, Plain};
 use noise_ledger::{
     Over, Place, admit, admit_for, const_bound, input_bound, mul_bound, neg_bound, output_bound,
@@ -85,7 +86,7 @@ fn answers(
 
 #[test]
 fn gives_the_rows(rt: HostRuntime) -> Result<(), Fail> {
-    let params = Params::frame(3, 2);
+    let params = frame(3, 2)?;
     for (name, value, wanted) in [
         ("input", input_bound(&params), 41),
         ("const", const_bound(&params), 0),
@@ -106,8 +107,8 @@ fn gives_the_rows(rt: HostRuntime) -> Result<(), Fail> {
 }
 
 #[test]
-fn gives_the_rows_of_balanced_digits(rt: HostRuntime) {
-    let params = Params::frame(3, 2).balanced();
+fn gives_the_rows_of_balanced_digits(rt: HostRuntime) -> Result<(), Fail> {
+    let params = frame(3, 2)?.balanced();
     for (name, value, wanted) in [
         ("input", input_bound(&params), 41),
         ("sum", sum_bound(&params, 41, 41), 83),
@@ -117,6 +118,7 @@ fn gives_the_rows_of_balanced_digits(rt: HostRuntime) {
     ] {
         assert_eq!(rt; value, wanted, "{name}");
     }
+    Ok(())
 }
 
 /// Whether a node behind inputs of the parties 1 and 2 gives these bounds of the three, and this of the output.
@@ -134,7 +136,7 @@ fn bounds_behind_inputs(
 #[test]
 fn admits_circuits(rt: HostRuntime) -> Result<(), Fail> {
     let alloc = rt.alloc();
-    let params = Params::frame(3, 2);
+    let params = frame(3, 2)?;
     let sum = bounds_behind_inputs(
         alloc,
         &params,
@@ -159,7 +161,7 @@ fn admits_circuits(rt: HostRuntime) -> Result<(), Fail> {
 #[test]
 fn admits_products_and_rotations(rt: HostRuntime) -> Result<(), Fail> {
     let alloc = rt.alloc();
-    let params = Params::frame(3, 2);
+    let params = frame(3, 2)?;
     let product = bounds_behind_inputs(
         alloc,
         &params,
@@ -182,7 +184,7 @@ fn admits_products_and_rotations(rt: HostRuntime) -> Result<(), Fail> {
 #[test]
 fn admits_with_balanced_digits(rt: HostRuntime) -> Result<(), Fail> {
     let alloc = rt.alloc();
-    let params = Params::frame(3, 2).balanced();
+    let params = frame(3, 2)?.balanced();
     let product = bounds_behind_inputs(
         alloc,
         &params,
@@ -210,11 +212,11 @@ fn bounds_for(
     last: Node,
     bounds: [u128; 3],
     output: u128,
-) -> Result<bool, AllocError>
+) -> Result<bool, Fail>
     requires some { 1 ≤ threshold }
     requires few { threshold ≤ 32 }
 {
-    let params = Params::frame(3, 2);
+    let params = frame(3, 2)?;
     let nodes = vec![in alloc; Node::Input { owner: 1 }, Node::Input { owner: 2 }, last]?;
     match Circuit::new(&params, nodes) {
         Err(_) => Ok(false),
@@ -276,7 +278,7 @@ fn bounds_of_product(
 #[test]
 fn admits_products_with_constants(rt: HostRuntime) -> Result<(), Fail> {
     let alloc = rt.alloc();
-    let params = Params::frame(3, 2);
+    let params = frame(3, 2)?;
     let given = bounds_of_product(alloc, &params, (0, 1), 5040, 5042)?;
     assert!(rt; given, "input times constant");
     let given = bounds_of_product(alloc, &params, (1, 0), 5040, 5042)?;
@@ -296,13 +298,7 @@ fn admits_a_negative_of_a_difference(rt: HostRuntime) -> Result<(), Fail> {
         Node::Neg { of: 2 },
     ]?;
     let bounds = [41, 41, 83, 84];
-    let given = gives(
-        alloc,
-        &Params::frame(3, 2),
-        nodes,
-        Ok(86),
-        bounds.as_slice(),
-    )?;
+    let given = gives(alloc, &frame(3, 2)?, nodes, Ok(86), bounds.as_slice())?;
     assert!(rt; given, "difference, then negative");
     Ok(())
 }
@@ -312,7 +308,7 @@ fn admits_a_constant(rt: HostRuntime) -> Result<(), Fail> {
     let alloc = rt.alloc();
     let seven = constant(alloc, 7)?;
     let nodes = vec![in alloc; seven]?;
-    let given = gives(alloc, &Params::frame(3, 2), nodes, Ok(2), [0].as_slice())?;
+    let given = gives(alloc, &frame(3, 2)?, nodes, Ok(2), [0].as_slice())?;
     assert!(rt; given, "constant");
     Ok(())
 }
@@ -344,13 +340,7 @@ fn names_the_first_place_over(rt: HostRuntime) -> Result<(), Fail> {
         UNTOUCHED,
     ];
     let nodes = products_of_products(alloc)?;
-    let given = gives(
-        alloc,
-        &Params::frame(3, 2),
-        nodes,
-        Err(over),
-        bounds.as_slice(),
-    )?;
+    let given = gives(alloc, &frame(3, 2)?, nodes, Err(over), bounds.as_slice())?;
     assert!(rt; given, "products of products");
     Ok(())
 }
@@ -358,7 +348,7 @@ fn names_the_first_place_over(rt: HostRuntime) -> Result<(), Fail> {
 #[test]
 fn admits_up_to_the_limit(rt: HostRuntime) -> Result<(), Fail> {
     let alloc = rt.alloc();
-    let params = Params::frame(1, 1);
+    let params = frame(1, 1)?;
     let limit = 985_162_418_487_295u64;
     let nodes = climb(alloc, limit)?;
     let given = answers(alloc, &params, nodes, Ok(limit as u128))?;

@@ -4,9 +4,10 @@ ghost use Rattle.std.specs.Prelude.{◌≡◌, ◌<◌, All, IfOk};
 ghost use Rattle.ring_spec.specs.Pairs.{CipherFits};
 ghost use Rattle.ring_spec.specs.Ring.{IsPoly};
 
+use crate::common::frame;
 use bfv_core::{Ciphertext, add, mul_plain, neg, round_phase, sub, trivial};
 use mod_ring::{Ring, of_signed};
-use param_set::{Params, Plain};
+use param_set::Plain;
 use std::alloc::{AllocError, Global};
 use std::test::Fail;
 
@@ -57,7 +58,7 @@ fn is_trivial(
 #[test]
 fn scales_a_plaintext(rt: HostRuntime) -> Result<(), Fail> {
     let alloc = rt.alloc();
-    let ring = Ring::new(alloc, &Params::frame(3, 2))?;
+    let ring = Ring::new(alloc, &frame(3, 2)?)?;
     let one = [1, 0, 0, 0, 0, 0, 0, 0];
     let scaled = [1_970_324_836_974_592, 0, 0, 0, 0, 0, 0, 0];
     assert!(rt; is_trivial(alloc, &ring, one, scaled)?, "one");
@@ -115,7 +116,7 @@ fn is_sum(alloc: Global, ring: &Ring, c0: [u64; 8], c1: [u64; 8]) -> Result<bool
 #[test]
 fn adds_part_by_part(rt: HostRuntime) -> Result<(), Fail> {
     let alloc = rt.alloc();
-    let ring = Ring::new(alloc, &Params::frame(3, 2))?;
+    let ring = Ring::new(alloc, &frame(3, 2)?)?;
     let c0 = [4, 2, 0, 0, 0, 0, 0, 0];
     let c1 = [5, Q - 2, 0, 0, 0, 0, 0, 0];
     assert!(rt; is_sum(alloc, &ring, c0, c1)?);
@@ -135,7 +136,7 @@ fn is_difference(alloc: Global, ring: &Ring, c0: [u64; 8], c1: [u64; 8]) -> Resu
 #[test]
 fn subtracts_part_by_part(rt: HostRuntime) -> Result<(), Fail> {
     let alloc = rt.alloc();
-    let ring = Ring::new(alloc, &Params::frame(3, 2))?;
+    let ring = Ring::new(alloc, &frame(3, 2)?)?;
     let c0 = [Q - 2, 2, 0, 0, 0, 0, 0, Q - 2];
     let c1 = [5, 2, 0, 0, 0, 0, 0, 0];
     assert!(rt; is_difference(alloc, &ring, c0, c1)?);
@@ -154,7 +155,7 @@ fn is_nothing(alloc: Global, ring: &Ring) -> Result<bool, AllocError>
 #[test]
 fn leaves_nothing_of_itself(rt: HostRuntime) -> Result<(), Fail> {
     let alloc = rt.alloc();
-    let ring = Ring::new(alloc, &Params::frame(3, 2))?;
+    let ring = Ring::new(alloc, &frame(3, 2)?)?;
     assert!(rt; is_nothing(alloc, &ring)?);
     Ok(())
 }
@@ -171,7 +172,7 @@ fn negated(alloc: Global, ring: &Ring) -> Result<Ciphertext, AllocError>
 #[test]
 fn takes_the_negative_of_both_parts(rt: HostRuntime) -> Result<(), Fail> {
     let alloc = rt.alloc();
-    let ring = Ring::new(alloc, &Params::frame(3, 2))?;
+    let ring = Ring::new(alloc, &frame(3, 2)?)?;
     let c0 = [Q - 1, Q - 2, 0, 0, 0, 0, 0, 1];
     let c1 = [Q - 5, 0, 0, 0, 0, 0, 0, 0];
     assert!(rt; is(&negated(alloc, &ring)?, c0, c1));
@@ -195,7 +196,7 @@ fn is_negated_twice(
 #[test]
 fn is_itself_when_negated_twice(rt: HostRuntime) -> Result<(), Fail> {
     let alloc = rt.alloc();
-    let ring = Ring::new(alloc, &Params::frame(3, 2))?;
+    let ring = Ring::new(alloc, &frame(3, 2)?)?;
     let c0 = [1, 2, 0, 0, 0, 0, 0, Q - 1];
     let c1 = [5, 0, 0, 0, 0, 0, 0, 0];
     assert!(rt; is_negated_twice(alloc, &ring, c0, c1)?);
@@ -221,7 +222,7 @@ fn is_turned(alloc: Global, ring: &Ring, c0: [u64; 8], c1: [u64; 8]) -> Result<b
 #[test]
 fn turns_by_a_multiple_of_x(rt: HostRuntime) -> Result<(), Fail> {
     let alloc = rt.alloc();
-    let ring = Ring::new(alloc, &Params::frame(3, 2))?;
+    let ring = Ring::new(alloc, &frame(3, 2)?)?;
     let c0 = [Q - 4, 1, 2, 0, 0, 0, 0, 0];
     let c1 = [3, 5, 0, 0, 0, 0, 0, 0];
     assert!(rt; is_turned(alloc, &ring, c0, c1)?, "turned");

@@ -2,6 +2,7 @@
 ghost use Rattle.std.specs.Prelude.{◌≡◌, ◌<◌, true, All};
 ghost use Rattle.ring_spec.specs.Ring.{IsPoly};
 
+use crate::common::frame;
 use circuit_form::{Circuit, Node, Plain, plain_value};
 use param_set::Params;
 use std::alloc::{AllocError, Global};
@@ -40,12 +41,8 @@ fn all_fit(params: &Params, inputs: &[Plain]) -> bool
 }
 
 /// The plain value of some nodes, if they are a circuit for one party with such inputs.
-fn value_of(
-    alloc: Global,
-    nodes: Vec<Node>,
-    inputs: &[Plain],
-) -> Result<Option<Plain>, AllocError> {
-    let params = Params::frame(1, 1);
+fn value_of(alloc: Global, nodes: Vec<Node>, inputs: &[Plain]) -> Result<Option<Plain>, Fail> {
+    let params = frame(1, 1)?;
     if !all_fit(&params, inputs) {
         return Ok(None);
     }
@@ -67,7 +64,7 @@ fn gives(
     nodes: Vec<Node>,
     inputs: Vec<Plain>,
     coeffs: [u64; 8],
-) -> Result<bool, AllocError> {
+) -> Result<bool, Fail> {
     match value_of(alloc, nodes, inputs.as_slice())? {
         Some(value) => Ok(value.coeffs() == coeffs.as_slice()),
         None => Ok(false),
@@ -149,21 +146,21 @@ fn computes_a_sum_with_one(rt: HostRuntime) -> Result<(), Fail> {
 }
 
 /// The node at fault among some nodes, for two parties.
-fn fault_of(nodes: Vec<Node>) -> Option<u32> {
-    match Circuit::new(&Params::frame(2, 1), nodes) {
-        Ok(_) => None,
-        Err(fault) => Some(fault.node),
+fn fault_of(nodes: Vec<Node>) -> Result<Option<u32>, Fail> {
+    match Circuit::new(&frame(2, 1)?, nodes) {
+        Ok(_) => Ok(None),
+        Err(fault) => Ok(Some(fault.node)),
     }
 }
 
 /// The node at fault where a product stands behind an input, and behind it the negative of no node.
-fn fault_of_product(alloc: Global, left: u32, right: u32) -> Result<Option<u32>, AllocError> {
+fn fault_of_product(alloc: Global, left: u32, right: u32) -> Result<Option<u32>, Fail> {
     let nodes = vec![in alloc;
         Node::Input { owner: 1 },
         Node::Mul { left, right },
         Node::Neg { of: 9 },
     ]?;
-    Ok(fault_of(nodes))
+    fault_of(nodes)
 }
 
 #[test]
@@ -177,8 +174,8 @@ fn names_the_first_node_at_fault(rt: HostRuntime) -> Result<(), Fail> {
 }
 
 /// The node at fault where a party owns the only input.
-fn fault_of_owner(alloc: Global, owner: u32) -> Result<Option<u32>, AllocError> {
-    Ok(fault_of(vec![in alloc; Node::Input { owner }]?))
+fn fault_of_owner(alloc: Global, owner: u32) -> Result<Option<u32>, Fail> {
+    fault_of(vec![in alloc; Node::Input { owner }]?)
 }
 
 #[test]
@@ -191,9 +188,9 @@ fn takes_owners_that_are_parties(rt: HostRuntime) -> Result<(), Fail> {
 }
 
 /// The node at fault where an input is turned.
-fn fault_of_rotation(alloc: Global, g: u32) -> Result<Option<u32>, AllocError> {
+fn fault_of_rotation(alloc: Global, g: u32) -> Result<Option<u32>, Fail> {
     let nodes = vec![in alloc; Node::Input { owner: 1 }, Node::Rot { g, of: 0 }]?;
-    Ok(fault_of(nodes))
+    fault_of(nodes)
 }
 
 #[test]
@@ -212,9 +209,9 @@ fn takes_odd_rotations_from_3_to_15(rt: HostRuntime) -> Result<(), Fail> {
 }
 
 /// The node at fault where the only one is a constant of so many equal coefficients.
-fn fault_of_constant(alloc: Global, count: usize, coeff: u64) -> Result<Option<u32>, AllocError> {
+fn fault_of_constant(alloc: Global, count: usize, coeff: u64) -> Result<Option<u32>, Fail> {
     let value = Plain::from_vec(vec![in alloc; coeff; count]?);
-    Ok(fault_of(vec![in alloc; Node::Const { value }]?))
+    fault_of(vec![in alloc; Node::Const { value }]?)
 }
 
 #[test]
@@ -228,12 +225,12 @@ fn takes_constants_of_eight_coefficients_below_16(rt: HostRuntime) -> Result<(),
 }
 
 /// The node at fault among so many inputs.
-fn fault_of_inputs(alloc: Global, count: usize) -> Result<Option<u32>, AllocError> {
+fn fault_of_inputs(alloc: Global, count: usize) -> Result<Option<u32>, Fail> {
     let mut nodes = Vec::new(alloc);
     for _ in 0..count {
         nodes.push(Node::Input { owner: 1 })?;
     }
-    Ok(fault_of(nodes))
+    fault_of(nodes)
 }
 
 #[test]
@@ -276,7 +273,7 @@ fn reads_a_circuit(rt: HostRuntime) -> Result<(), Fail> {
         Node::Mul { left: 0, right: 1 },
         Node::Input { owner: 1 },
     ]?;
-    let Ok(circuit) = Circuit::new(&Params::frame(2, 1), nodes) else {
+    let Ok(circuit) = Circuit::new(&frame(2, 1)?, nodes) else {
         panic!(rt; "no circuit")
     };
     reads_nodes(&rt, &circuit);
@@ -293,7 +290,7 @@ fn reads_products_and_rotations(rt: HostRuntime) -> Result<(), Fail> {
         Node::Mul { left: 0, right: 0 },
         Node::Rot { g: 5, of: 1 },
     ]?;
-    let Ok(circuit) = Circuit::new(&Params::frame(2, 1), nodes) else {
+    let Ok(circuit) = Circuit::new(&frame(2, 1)?, nodes) else {
         panic!(rt; "no circuit")
     };
     assert!(rt; circuit.has_product());

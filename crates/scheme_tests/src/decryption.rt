@@ -3,9 +3,9 @@
 ghost use Rattle.std.specs.Prelude.{◌≡◌, All, IfOk, length};
 ghost use Rattle.mod_ring.specs.Fits.{Fits};
 
+use crate::common::frame;
 use decrypt_protocol::{dec_finish, dec_share};
 use mod_ring::{Poly, Polys, Ring, add_into, of_signed};
-use param_set::Params;
 use std::alloc::{AllocError, Global};
 use std::test::Fail;
 
@@ -159,7 +159,7 @@ fn is_share(
 #[test]
 fn shares(rt: HostRuntime) -> Result<(), Fail> {
     let alloc = rt.alloc();
-    let ring = Ring::new(alloc, &Params::frame(1, 1))?;
+    let ring = Ring::new(alloc, &frame(1, 1)?)?;
     for (seed, c1, part, wanted) in [
         (FIRST, C1_ALONE, PART_ALONE, SHARE_ALONE),
         (FIRST, C1, FIRST_PART, FIRST_SHARE),
@@ -207,7 +207,7 @@ fn is_opened(
 #[test]
 fn opens(rt: HostRuntime) -> Result<(), Fail> {
     let alloc = rt.alloc();
-    let ring = Ring::new(alloc, &Params::frame(1, 1))?;
+    let ring = Ring::new(alloc, &frame(1, 1)?)?;
     for (c0, first, second) in [
         (C0_ALONE, SHARE_ALONE, [0; 8]),
         (C0, FIRST_SHARE, SECOND_SHARE),

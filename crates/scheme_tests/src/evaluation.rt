@@ -4,11 +4,11 @@ ghost use Rattle.std.specs.Prelude.{◌≡◌, ◌<◌, All, IfOk, None};
 ghost use Rattle.ring_spec.specs.Pairs.{CipherFits};
 ghost use Rattle.circuit_form.specs.Circuits.{first_fault};
 
+use crate::common::frame;
 use bfv_core::{Ciphertext, round_phase, trivial};
 use circuit_form::{Circuit, Node, Plain};
 use circuit_runner::{Inputs, Job, evaluate, is_switch_free};
 use mod_ring::Ring;
-use param_set::Params;
 use std::alloc::{AllocError, Global};
 use std::sync::Arc;
 use std::test::Fail;
@@ -79,8 +79,8 @@ fn value_in(alloc: Global, ring: &Ring, circuit: Arc<Circuit>) -> Result<Option<
 }
 
 /// Whether some nodes are a circuit that is taken, and its output opens to these coefficients.
-fn gives(alloc: Global, nodes: Vec<Node>, coeffs: [u64; 8]) -> Result<bool, AllocError> {
-    let ring = Ring::new(alloc, &Params::frame(3, 2))?;
+fn gives(alloc: Global, nodes: Vec<Node>, coeffs: [u64; 8]) -> Result<bool, Fail> {
+    let ring = Ring::new(alloc, &frame(3, 2)?)?;
     let Ok(circuit) = Circuit::new(ring.params(), nodes) else {
         return Ok(false);
     };
@@ -91,7 +91,7 @@ fn gives(alloc: Global, nodes: Vec<Node>, coeffs: [u64; 8]) -> Result<bool, Allo
 }
 
 /// Whether a node behind inputs of the parties 1 and 3 opens to these coefficients.
-fn gives_of_two(alloc: Global, last: Node, coeffs: [u64; 8]) -> Result<bool, AllocError> {
+fn gives_of_two(alloc: Global, last: Node, coeffs: [u64; 8]) -> Result<bool, Fail> {
     let nodes = vec![in alloc; Node::Input { owner: 1 }, Node::Input { owner: 3 }, last]?;
     gives(alloc, nodes, coeffs)
 }
@@ -128,12 +128,7 @@ fn constant(alloc: Global, coeffs: [u64; 8]) -> Result<Node, AllocError> {
 }
 
 /// Whether the product of two nodes opens to these coefficients.
-fn product_gives(
-    alloc: Global,
-    left: Node,
-    right: Node,
-    coeffs: [u64; 8],
-) -> Result<bool, AllocError> {
+fn product_gives(alloc: Global, left: Node, right: Node, coeffs: [u64; 8]) -> Result<bool, Fail> {
     let nodes = vec![in alloc; left, right, Node::Mul { left: 0, right: 1 }]?;
     gives(alloc, nodes, coeffs)
 }
@@ -163,10 +158,10 @@ fn takes_a_constant_alone(rt: HostRuntime) -> Result<(), Fail> {
 }
 
 /// Whether some nodes need no key switch, if they are a circuit.
-fn need_no_switch(nodes: Vec<Node>) -> Option<bool> {
-    match Circuit::new(&Params::frame(3, 2), nodes) {
-        Err(_) => None,
-        Ok(circuit) => Some(is_switch_free(&circuit)),
+fn need_no_switch(nodes: Vec<Node>) -> Result<Option<bool>, Fail> {
+    match Circuit::new(&frame(3, 2)?, nodes) {
+        Err(_) => Ok(None),
+        Ok(circuit) => Ok(Some(is_switch_free(&circuit))),
     }
 }
 
@@ -187,11 +182,11 @@ fn of_one(alloc: Global, last: Node) -> Result<Vec<Node>, AllocError> {
 #[test]
 fn tells_circuits_that_need_a_key_switch(rt: HostRuntime) -> Result<(), Fail> {
     let alloc = rt.alloc();
-    let of_product = need_no_switch(product(alloc)?);
+    let of_product = need_no_switch(product(alloc)?)?;
     assert_eq!(rt; of_product, Some(false), "product");
-    let of_rotation = need_no_switch(of_one(alloc, Node::Rot { g: 3, of: 0 })?);
+    let of_rotation = need_no_switch(of_one(alloc, Node::Rot { g: 3, of: 0 })?)?;
     assert_eq!(rt; of_rotation, Some(false), "rotation");
-    let of_sum = need_no_switch(of_one(alloc, Node::Add { left: 0, right: 0 })?);
+    let of_sum = need_no_switch(of_one(alloc, Node::Add { left: 0, right: 0 })?)?;
     assert_eq!(rt; of_sum, Some(true), "sum");
     Ok(())
 }
@@ -207,7 +202,7 @@ fn is_at(list: &Inputs, k: usize, coeffs: [u64; 8]) -> bool {
 fn keeps_inputs_in_order(rt: HostRuntime) -> Result<(), Fail> {
     let alloc = rt.alloc();
     assert!(rt; Inputs::new(alloc).is_empty());
-    let ring = Ring::new(alloc, &Params::frame(3, 2))?;
+    let ring = Ring::new(alloc, &frame(3, 2)?)?;
     let list = inputs(alloc, &ring, 2)?;
     assert_eq!(rt; list.len(), 2);
     let first = [

@@ -3,9 +3,9 @@ ghost use Rattle.std.specs.Prelude.{◌≡◌, [], ◌∷◌, All, IfOk, length,
 ghost use Rattle.mod_ring.specs.Fits.{Fits};
 ghost use Rattle.instance_table.specs.Tables.{awaits};
 
+use crate::common::frame;
 use instance_table::{Brief, Count, Share, Stage, Table};
 use mod_ring::{Polys, Ring, of_signed, zero};
-use param_set::Params;
 use proto_names::{Groups, PartySet, Signature};
 use std::alloc::{AllocError, Global};
 use std::process::Abort;
@@ -128,7 +128,7 @@ fn opened(alloc: Global, ring: &Ring) -> Result<Table, AllocError>
 #[test]
 fn issues_an_instance(rt: HostRuntime) -> Result<(), Fail> {
     let alloc = rt.alloc();
-    let ring = Ring::new(alloc, &Params::frame(3, 2))?;
+    let ring = Ring::new(alloc, &frame(3, 2)?)?;
     let mut table = Table::new(alloc, &ring)?;
     assert_eq!(rt; issue(alloc, &mut table, &ring, 0, 0b11)?, 1);
     assert_eq!(rt; constant(&table, 1), Some(0));
@@ -138,7 +138,7 @@ fn issues_an_instance(rt: HostRuntime) -> Result<(), Fail> {
 #[test]
 fn counts_the_first_share(rt: HostRuntime) -> Result<(), Fail> {
     let alloc = rt.alloc();
-    let ring = Ring::new(alloc, &Params::frame(3, 2))?;
+    let ring = Ring::new(alloc, &frame(3, 2)?)?;
     let mut table = opened(alloc, &ring)?;
     let first = give(alloc, &mut table, &ring, 1, 1, -1)?;
     assert_eq!(rt; first, Some(Count::Counted { missing: 1 }));
@@ -175,7 +175,7 @@ fn is_complete<R: Abort>(rt: &R, table: &Table) {
 #[test]
 fn adds_shares_row_by_row(rt: HostRuntime) -> Result<(), Fail> {
     let alloc = rt.alloc();
-    let ring = Ring::new(alloc, &Params::frame(3, 2))?;
+    let ring = Ring::new(alloc, &frame(3, 2)?)?;
     let mut table = opened(alloc, &ring)?;
     give_thrice(&rt, alloc, &mut table, &ring)?;
     let last = give(alloc, &mut table, &ring, 1, 2, 13)?;
@@ -225,7 +225,7 @@ fn sums_without_the_second<R: Abort>(rt: &R, table: &Table) {
 #[test]
 fn gives_up_what_lacks_a_share(rt: HostRuntime) -> Result<(), Fail> {
     let alloc = rt.alloc();
-    let ring = Ring::new(alloc, &Params::frame(3, 2))?;
+    let ring = Ring::new(alloc, &frame(3, 2)?)?;
     let mut table = three(alloc, &ring)?;
     assert!(rt; lack(alloc, &table, 2, &[2])?);
     table.lose(2);
@@ -254,7 +254,7 @@ fn void_third(table: &mut Table) {
 #[test]
 fn gives_one_up(rt: HostRuntime) -> Result<(), Fail> {
     let alloc = rt.alloc();
-    let ring = Ring::new(alloc, &Params::frame(3, 2))?;
+    let ring = Ring::new(alloc, &frame(3, 2)?)?;
     let mut table = three(alloc, &ring)?;
     void_third(&mut table);
     assert_eq!(rt; stage(&table, 3), Some(Stage::Void { by: 1 }));

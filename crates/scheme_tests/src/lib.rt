@@ -1,8 +1,8 @@
 //! The tests of the scheme, of the parties' protocols and of the table of instances, each against values from
 //! outside.
 //!
-//! A file a subject. They stand apart from the crates that they are about because a crate with tests is proved
-//! twice. No code stands here, and nothing else uses this crate.
+//! A file a subject, and in `common` the parameters of most. They stand apart from the crates that they are about
+//! because a crate with tests is proved twice. No code stands here, and nothing else uses this crate.
 #![tactic(auto)]
 
 #[cfg(test)]
@@ -11,6 +11,8 @@ mod bounds;
 mod ciphertexts;
 #[cfg(test)]
 mod circuits;
+#[cfg(test)]
+mod common;
 #[cfg(test)]
 mod decryption;
 #[cfg(test)]

@@ -11,9 +11,10 @@ ghost use Rattle.party_roll.specs.Seeds.{seeds_of};
 ghost use Rattle.party_roll.specs.Briefs.{IsBrief};
 ghost use Rattle.party_roll.specs.Values.{value_in, IsPlain};
 
+use crate::common::frame;
 use instance_table::{Brief, Share};
 use mod_ring::{Ciphertext, Poly, Polys, PublicKey, Ring, of_signed};
-use param_set::{Params, Plain};
+use param_set::Plain;
 use party_roll::*;
 use proto_names::{Groups, PartySet, Signature};
 use std::alloc::{AllocError, Global};
@@ -211,7 +212,7 @@ fn key_brief(alloc: Global, ring: &Ring) -> Result<Brief, AllocError>
 
 #[test]
 fn shares_of_a_key(rt: HostRuntime) -> Result<(), Fail> {
-    let ring = Ring::new(rt.alloc(), &Params::frame(3, 2))?;
+    let ring = Ring::new(rt.alloc(), &frame(3, 2)?)?;
     let brief = key_brief(rt.alloc(), &ring)?;
     for (p, start, _) in SHARES {
         let made = is_made(rt.alloc(), &ring, p, &brief, 1, start)?;
@@ -242,7 +243,7 @@ fn decryption_brief(alloc: Global, ring: &Ring) -> Result<Brief, AllocError>
 
 #[test]
 fn shares_of_two_of_three(rt: HostRuntime) -> Result<(), Fail> {
-    let ring = Ring::new(rt.alloc(), &Params::frame(3, 2))?;
+    let ring = Ring::new(rt.alloc(), &frame(3, 2)?)?;
     let brief = decryption_brief(rt.alloc(), &ring)?;
     for (p, _, start) in SHARES {
         let made = is_made(rt.alloc(), &ring, p, &brief, 2, start)?;
@@ -319,7 +320,7 @@ fn has_parts<R: Abort>(rt: &R, c: &Ciphertext) {
 
 #[test]
 fn input_of_the_second_party(rt: HostRuntime) -> Result<(), Fail> {
-    let ring = Ring::new(rt.alloc(), &Params::frame(3, 2))?;
+    let ring = Ring::new(rt.alloc(), &frame(3, 2)?)?;
     has_parts(&rt, &second_input(rt.alloc(), &ring)?);
     Ok(())
 }

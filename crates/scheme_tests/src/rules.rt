@@ -1,13 +1,16 @@
 //! The calls for a sum of inputs of the parties 1 and 2 among three, of whom any two act.
-ghost use Rattle.std.specs.Prelude.{◌≡◌, [], length, IfOk};
+ghost use Rattle.std.specs.Prelude.{◌≡◌, [], length, IfOk, IfSome};
 
+use crate::common::frame;
 use circuit_form::{Circuit, Node};
-use param_set::{Ids, Params};
+use param_set::Ids;
 use proto_names::{Instance, PartySet, Signature, Stage};
 use session_rules::{
-    CircuitState, Fixed, Given, Move, Plan, PlanList, next_ready, plan_of, planned_moves,
+    CircuitState, Fixed, Given, Move, Plan, PlanList, SessionNumbers, SharedNodes, next_ready,
+    plan_of, planned_moves,
 };
 use std::alloc::{AllocError, Global};
+use std::sync::Arc;
 use std::test::Fail;
 
 /// The list of one plan.
@@ -20,11 +23,12 @@ fn only(alloc: Global, plan: Plan) -> Result<PlanList, AllocError>
 }
 
 /// What is fixed for the circuit of some nodes, if they are one.
-fn fixed_of(alloc: Global, nodes: Vec<Node>) -> Result<Option<Fixed>, AllocError> {
-    let params = Params::frame(3, 2);
+fn fixed_of(alloc: Global, nodes: Vec<Node>) -> Result<Option<Fixed>, Fail> {
+    let params = frame(3, 2)?;
     match Circuit::new(&params, nodes) {
         Err(_) => Ok(None),
         Ok(circuit) => {
+            let circuit = Arc::new(alloc, circuit)?;
             let plans = only(alloc, plan_of(alloc, &params, &circuit)?)?;
             Ok(Some(Fixed::new(alloc, &params, plans)?))
         }
@@ -57,24 +61,31 @@ fn fixes_what_circuits_need(rt: HostRuntime) -> Result<(), Fail> {
     Ok(())
 }
 
-/// What is fixed for the sum.
-fn fixed_for_sum(alloc: Global) -> Result<Fixed, AllocError>
-    ensures plans { IfOk result (λ fixed. length fixed.plans ≡ 1) }
-    ensures turns { IfOk result (λ fixed. fixed.turns ≡ []) }
+/// What is fixed for the sum, if it is a circuit.
+fn fixed_for_sum(alloc: Global) -> Result<Option<Fixed>, Fail>
+    ensures plans { IfOk result (λ made. IfSome made (λ fixed. length fixed.plans ≡ 1)) }
+    ensures turns { IfOk result (λ made. IfSome made (λ fixed. fixed.turns ≡ [])) }
 {
+    let params = frame(3, 2)?;
+    let Ok(circuit) = Circuit::new(&params, sum(alloc)?) else {
+        return Ok(None);
+    };
+    let circuit = Arc::new(alloc, circuit)?;
     let owners = Ids::from_vec(vec![in alloc; 1, 2]?);
     let plan = Plan {
+        nodes: SharedNodes::of(&circuit)?,
         owners,
         product: false,
         turns: Ids::new(alloc),
         opening: CircuitState::Idle,
     };
-    Ok(Fixed {
+    Ok(Some(Fixed {
+        numbers: SessionNumbers::of(&params),
         threshold: 2,
         rows: 7,
         plans: only(alloc, plan)?,
         turns: Ids::new(alloc),
-    })
+    }))
 }
 
 /// The parties 2 and 3.
@@ -126,7 +137,9 @@ fn ready_before_and_after(
 #[test]
 fn finds_out_what_comes_next(rt: HostRuntime) -> Result<(), Fail> {
     let alloc = rt.alloc();
-    let fixed = fixed_for_sum(alloc)?;
+    let Some(fixed) = fixed_for_sum(alloc)? else {
+        panic!(rt; "no circuit")
+    };
     let key = Move::Issue {
         signature: Signature::Pk,
         set: SET,

@@ -1,6 +1,7 @@
 ghost use Rattle.std.specs.Prelude.{◌≡◌, ◌<◌, ◌≤◌, All, IfOk, length};
 ghost use Rattle.mod_ring.specs.Fits.{Fits};
 
+use crate::common::frame;
 use mod_ring::{Poly, Ring};
 use param_set::{ParamFault, Params, RawParams};
 use proto_names::PartySet;
@@ -114,8 +115,8 @@ fn any_two_of_three_have_the_secret_modulo_a_product(rt: HostRuntime) -> Result<
 }
 
 #[test]
-fn coefficients_of_two_parties(rt: HostRuntime) -> Result<(), AllocError> {
-    let ring = Ring::new(rt.alloc(), &Params::frame(3, 2))?;
+fn coefficients_of_two_parties(rt: HostRuntime) -> Result<(), Fail> {
+    let ring = Ring::new(rt.alloc(), &frame(3, 2)?)?;
     for (bits, j, want) in [
         (3, 1, 2),
         (3, 2, 31_525_197_391_593_472),

@@ -1,14 +1,43 @@
-//! What several tests begin with: a circuit, and a ciphertext.
-ghost use Rattle.std.specs.Prelude.{◌≡◌, length, All, IfOk, IfSome};
+//! What several tests begin with: parameters, a circuit, and a ciphertext.
+ghost use Rattle.std.specs.Prelude.{◌≡◌, false, length, All, IfOk, IfSome};
+ghost use Rattle.param_set.specs.Numbers.{numbers_of};
 ghost use Rattle.ring_spec.specs.Pairs.{CipherFits};
 ghost use Rattle.session_spec.specs.Settings.{Keeps};
 
 use circuit_form::{Circuit, Node};
 use mod_ring::{Ciphertext, Ring, zero};
-use param_set::Params;
+use param_set::{ParamFault, Params, RawParams};
 use session_state::{Circuits, Offered};
 use std::alloc::{AllocError, Global};
 use std::sync::Arc;
+
+/// n = 8, q = 7 * 2^52 + 1, t = 16, digits of 8 bits that aren't balanced, and noise and flood within 1, for
+/// `threshold` of `parties` parties.
+pub fn frame(parties: u64, threshold: u64) -> Result<Params, ParamFault>
+    ensures { IfOk result (λ params. numbers_of params ≡ record {
+      n = 8;
+      q = 31525197391593473;
+      t = 16;
+      digit_bits = 8;
+      balanced = false;
+      err = 1;
+      flood = 1;
+      parties = parties;
+      threshold = threshold;
+    }) }
+{
+    Params::check(&RawParams {
+        n: 8,
+        q: 31_525_197_391_593_473,
+        t: 16,
+        root: 3,
+        digit_bits: 8,
+        err: 1,
+        flood: 1,
+        parties,
+        threshold,
+    })
+}
 
 /// The sum of an input of party 1 and one of party 2, as the only circuit of a session.
 #[tactic(auto, unfolding(cipher_spec::specs::Ciphers::is_switch_free))]

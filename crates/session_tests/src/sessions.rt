@@ -3,9 +3,8 @@
 ghost use Rattle.std.specs.Prelude.{◌≡◌, ◌^◌, ◌<◌, ◌≤◌, length, All, IfOk, IfSome};
 ghost use Rattle.mod_ring.specs.Fits.{Fits};
 
-use crate::common::{one_sum, zeros};
+use crate::common::{frame, one_sum, zeros};
 use mod_ring::{Poly, Polys, Ring, of_signed};
-use param_set::Params;
 use party_roll::NoRoll;
 use session_core::{Call, Reply, Session, Share, Stop};
 use std::alloc::{AllocError, Global};
@@ -52,13 +51,13 @@ fn outcome(said: &Result<Reply, Stop>) -> Told {
 }
 
 /// A session of so many calls, where its circuit can be made.
-fn open(alloc: Global, max_calls: u32) -> Result<Option<Session<NoRoll>>, AllocError>
+fn open(alloc: Global, max_calls: u32) -> Result<Option<Session<NoRoll>>, Fail>
     requires some { 1 ≤ max_calls }
     requires most { max_calls ≤ 100 }
     ensures degree { IfOk result (λ made. IfSome made (λ s. s.standing.params.n ≡ 8)) }
     ensures parties { IfOk result (λ made. IfSome made (λ s. s.standing.params.parties ≡ 3)) }
 {
-    let params = Params::frame(3, 2);
+    let params = frame(3, 2)?;
     let Some(circuits) = one_sum(alloc, &params)? else {
         return Ok(None);
     };

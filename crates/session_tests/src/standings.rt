@@ -4,9 +4,8 @@ ghost use Rattle.session_rules.specs.Facts.{Kept};
 ghost use Rattle.session_rules.specs.Grounds.{Grounded};
 ghost use Rattle.session_state.specs.Standings.{rules_of, state};
 
-use crate::common::{one_sum, zeros};
+use crate::common::{frame, one_sum, zeros};
 use mod_ring::Ring;
-use param_set::Params;
 use session_rules::{CircuitState, Reply};
 use session_state::Standing;
 use std::alloc::{AllocError, Global};
@@ -14,11 +13,11 @@ use std::sync::Arc;
 use std::test::Fail;
 
 /// A session over that circuit alone.
-fn opened(alloc: Global) -> Result<Option<Standing>, AllocError>
+fn opened(alloc: Global) -> Result<Option<Standing>, Fail>
     ensures kept { IfOk result (λ made. IfSome made (λ st. Kept (rules_of st) (state st))) }
     ensures grounded { IfOk result (λ made. IfSome made (λ st. Grounded (rules_of st) (state st))) }
 {
-    let params = Params::frame(3, 2);
+    let params = frame(3, 2)?;
     let ring = Arc::new(alloc, Ring::new(alloc, &params)?)?;
     let Some(circuits) = one_sum(alloc, &params)? else {
         return Ok(None);
