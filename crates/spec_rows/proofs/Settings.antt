@@ -4,9 +4,9 @@ use Rattle.std.proofs.Common.{◌≡◌, ℕ, ◌<◌, false, List, [], ◌∷�
 use Rattle.std.specs.Prelude.{IsTrue, unwrap_or}
 use Rattle.std.specs.Int.{is_power_of_two}
 use Rattle.std.proofs.lemmas.List.Elements.{All-cons, All-nil}
-use lib.Count.{count_leading_zeros, ones}
+use lib.Count.{ones}
 use Rattle.ring_spec.specs.Ring.{IsPoly, residue, residues, ring_sum}
-use Rattle.param_set.specs.Moduli.{indivisible}
+use Rattle.param_set.specs.Moduli.{binary_digits, digits_up_to, indivisible}
 use Rattle.param_set.specs.declared.params.Params.{Params}
 use Rattle.circuit_form.specs.declared.node.Node.TheVariants.{Input, Const, Add, Rot}
 use Rattle.circuit_form.specs.Circuits.{first_wrong, first_fault, may_stand, owners}
@@ -23,7 +23,7 @@ use Rattle.instance_table.specs.Tables.{no_sums, row_counts}
 use Rattle.spec_rows.proofs.Tables.{issued}
 use Rattle.session_rules.specs.declared.state.CircuitState.TheVariants.{Idle}
 use Rattle.session_rules.specs.Fixing.{begins_as, plan_of, fixed_from}
-use Rattle.session_spec.specs.Settings.{Offer, Setting, gadget_rows, rules, nodes_at, values_at, value_at, owner_at, input_count, plain_at, seed_at, Keeps, Tells, IsSetting, HasValues}
+use Rattle.session_spec.specs.Settings.{Offer, Setting, gadget_rows, rules, nodes_at, values_at, value_at, owner_at, input_count, plain_at, Keeps, Tells, IsSetting, HasValues, IsSwitchFree, NeedsNoSwitch}
 
 abbrev pub numbers : Numbers
 numbers = record { n = 2; q = 1009; t = 4; digit_bits = 5; balanced = false; err = 1; flood = 2; parties = 3; threshold = 2 }
@@ -43,7 +43,7 @@ abbrev pub w : Setting
 w = record { numbers = numbers; public = 9 ∷ []; offers = constant ∷ sum ∷ untold ∷ [] }
 
 pub rows : gadget_rows w ≡ 2
-unfolding count_leading_zeros
+unfolding binary_digits digits_up_to
 rows = refl
 
 -- ---- circuit by circuit, and past the last one
@@ -62,19 +62,17 @@ pub plain_of_each : (plain_at w 0 ≡ 3 ∷ 2 ∷ []) × (plain_at w 1 ≡ 0 ∷
 unfolding plain_at plain_value values_from node_value given_after ring_sum residues residue
 plain_of_each = (refl, refl)
 
-pub seeds_in_order : (seed_at ((7 ∷ []) ∷ (8 ∷ []) ∷ []) 1 ≡ 7 ∷ []) × (seed_at ((7 ∷ []) ∷ (8 ∷ []) ∷ []) 2 ≡ 8 ∷ []) × (seed_at ((7 ∷ []) ∷ (8 ∷ []) ∷ []) 3 ≡ [])
-seeds_in_order = (refl, refl, refl)
-
--- the rules see owners, products and rotations; all three circuits are admitted
+-- the rules see nodes, owners, products and rotations; all three circuits are admitted
 pub rules_see : rules w ≡ record {
+  numbers = numbers;
   threshold = 2;
   rows = 2;
-  plans = record { owners = []; product = false; turns = []; opening = Idle }
-      ∷ record { owners = 2 ∷ 1 ∷ []; product = false; turns = []; opening = Idle }
-      ∷ record { owners = 2 ∷ 1 ∷ []; product = false; turns = []; opening = Idle } ∷ [];
+  plans = record { nodes = Const (3 ∷ 2 ∷ []) ∷ []; owners = []; product = false; turns = []; opening = Idle }
+      ∷ record { nodes = Input 2 ∷ Input 1 ∷ Add 0 1 ∷ []; owners = 2 ∷ 1 ∷ []; product = false; turns = []; opening = Idle }
+      ∷ record { nodes = Input 2 ∷ Input 1 ∷ Add 0 1 ∷ []; owners = 2 ∷ 1 ∷ []; product = false; turns = []; opening = Idle } ∷ [];
   turns = [];
 }
-unfolding rules fixed_from plan_of begins_as owners first_over first_above place_bound output_bound node_bounds bounds_from node_bound input_bound sum_bound count_leading_zeros
+unfolding rules fixed_from plan_of begins_as owners first_over first_above place_bound output_bound node_bounds bounds_from node_bound input_bound sum_bound binary_digits digits_up_to
 rules_see = refl
 
 -- ---- what a setting has to keep, for parameters with eight coefficients, plaintexts modulo 16 and three parties
@@ -115,10 +113,18 @@ abbrev pub small : Offer
 small = record { nodes = Input 3 ∷ Const seven ∷ Add 0 1 ∷ []; values = Some (seven ∷ []) }
 
 pub keeps : Keeps p small
-unfolding first_fault first_wrong may_stand is_switch_free
-keeps = record { rules = refl; switch_free = refl }
+unfolding first_fault first_wrong may_stand
+keeps = record { rules = refl }
 
--- no node, an owner who is no party, and a rotation
+-- a rotation is kept too
+abbrev pub turned : Offer
+turned = record { nodes = Input 1 ∷ Rot 3 0 ∷ []; values = Some (seven ∷ []) }
+
+pub keeps_rotation : Keeps p turned
+unfolding first_fault first_wrong may_stand
+keeps_rotation = record { rules = refl }
+
+-- no node, an owner who is no party, and a rotation of a node behind it
 pub keeps_no_node : Keeps p (record { nodes = []; values = Some [] }) → ⊥
 unfolding first_fault
 keeps_no_node k = let fault : ◌≡◌ {A = Option ℕ} (Some 0) None = k.rules in cc
@@ -127,9 +133,9 @@ pub keeps_no_owner : Keeps p (record { nodes = Input 4 ∷ []; values = Some (se
 unfolding first_fault first_wrong may_stand
 keeps_no_owner k = let fault : ◌≡◌ {A = Option ℕ} (Some 0) None = k.rules in cc
 
-pub keeps_no_rotation : Keeps p (record { nodes = Input 1 ∷ Rot 3 0 ∷ []; values = Some (seven ∷ []) }) → ⊥
-unfolding is_switch_free
-keeps_no_rotation k = true≢false (sym k.switch_free)
+pub keeps_no_later_node : Keeps p (record { nodes = Input 1 ∷ Rot 3 1 ∷ []; values = Some (seven ∷ []) }) → ⊥
+unfolding first_fault first_wrong may_stand
+keeps_no_later_node k = let fault : ◌≡◌ {A = Option ℕ} (Some 1) None = k.rules in cc
 
 -- ---- one plaintext is told for each input
 
@@ -175,6 +181,15 @@ setting = record { numbers = refl; circuits = All-cons (Keeps p) small [] keeps 
 pub has_values : HasValues p framed
 has_values = All-cons (Tells p) small [] tells (All-nil (Tells p))
 
+-- no key is needed but the public one; a rotation needs another, beside circuits that need none too
+pub needs_no_switch : NeedsNoSwitch framed
+unfolding is_switch_free
+needs_no_switch = All-cons IsSwitchFree small [] refl (All-nil IsSwitchFree)
+
+pub needs_a_switch : NeedsNoSwitch (record framed { offers = small ∷ turned ∷ [] }) → ⊥
+unfolding is_switch_free
+needs_a_switch h = true≢false (sym (h 1 small (omega arith)))
+
 pub of_other_numbers : IsSetting p (record framed { numbers = numbers }) → ⊥
 of_other_numbers s = let degrees : 2 ≡ 8 = ap (λ (m : Numbers). m.n) s.numbers in absurd (omega (arith, degrees))
 
@@ -187,5 +202,5 @@ has_no_values h = tells_none (h 0 small (omega arith))
 -- ---- the sums of an instance have as many rows as its shares: for seven rows of the gadget
 
 pub sums_have : (no_sums p Pk ≡ (0 ∷ 0 ∷ 0 ∷ 0 ∷ 0 ∷ 0 ∷ 0 ∷ 0 ∷ []) ∷ []) × (length (no_sums p Rlk1) ≡ 14) × (row_counts p (issued 1 (TurnKey 3) 3 1 0 Opened 0) ≡ 7)
-unfolding no_sums rows_of count_leading_zeros
+unfolding no_sums rows_of binary_digits digits_up_to
 sums_have = (refl, refl, refl)

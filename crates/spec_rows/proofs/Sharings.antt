@@ -65,6 +65,11 @@ pub dealt_by : (seed : List ℕ) → dealt 97 2 3 4 seed ≡ value_at 97 2 (own_
 unfolding dealt dealing dealing_at
 dealt_by seed = refl
 
+-- the parties are numbered from 1 on
+pub seeds_in_order : (seed_in ((7 ∷ []) ∷ (8 ∷ []) ∷ []) 1 ≡ 7 ∷ []) × (seed_in ((7 ∷ []) ∷ (8 ∷ []) ∷ []) 2 ≡ 8 ∷ []) × (seed_in ((7 ∷ []) ∷ (8 ∷ []) ∷ []) 3 ≡ [])
+unfolding seed_in
+seeds_in_order = (refl, refl, refl)
+
 -- a share is the sum of what all deal to its point, and the secret is the sum of all parts
 pub shares : (a b : List ℕ) → share 97 2 3 (a ∷ b ∷ []) 4 ≡ ring_sum 97 2 (dealt 97 2 3 4 a) (ring_sum 97 2 (dealt 97 2 3 4 b) (0 ∷ 0 ∷ []))
 unfolding share share_by dealt_by_party seed_in dealers_in ring_total residues residue
