@@ -111,7 +111,7 @@ judged a es c l = judged_by a es c l (first_over (bounding a) (nodes_asked a c))
 
 text_same : (a : Asked) (s : State) (i : Instance) → i.sent ≡ i.set → instance_text a s i ≡ instance_line i (polys_digest (aggregate a s i))
 unfolding instance_text aggregate sums_of
-text_same a s i e = ap (λ (z : List (List ℕ)). instance_line i (polys_digest z)) (ap (sum_rows _ _ _ _ _ _) (ap (λ (z : PartySet). z.bits) e))
+text_same a s i e = ap (λ (z : List (List ℕ)). instance_line i (polys_digest z)) (ap (sum_rows _ _ _ _) (ap (λ (z : PartySet). z.bits) e))
 
 pub aggregated : (a : Asked) (es : List Entry) (i : Instance) → Contains (state_of a es).instances i → i.stage ≡ Complete → IsAggregate a (state_of a es) i
 aggregated a es i m e =

@@ -4,7 +4,6 @@ use Rattle.std.proofs.lemmas.List.{length-map, get_or-map}
 use Rattle.std.proofs.lemmas.List.Elements.{All-map}
 use Rattle.std.proofs.lemmas.List.Sums.{AllPass-from_list_all}
 use Rattle.param_set.specs.declared.params.Params.{Params}
-use Rattle.cipher_spec.specs.Ciphers.{is_switch_free}
 use Rattle.draw_spec.specs.Streams.{party_seed}
 use Rattle.party_roll.specs.Seeds.{seeds_of}
 use Rattle.party_roll.proofs.Told.{seeds_told_number}
@@ -13,7 +12,7 @@ use Rattle.session_rules.specs.States.{plan, no_plan}
 use Rattle.session_rules.specs.Fixing.{plan_of}
 use Rattle.session_rules.specs.Grounds.{IsWhole}
 use Rattle.session_rules.proofs.Whole.{circuits_are_whole}
-use Rattle.session_spec.specs.Settings.{Keeps, Tells, nodes_of, no_offer, rules, IsSetting, HasValues}
+use Rattle.session_spec.specs.Settings.{Keeps, Tells, nodes_of, no_offer, rules, IsSetting, HasValues, IsSwitchFree, NeedsNoSwitch}
 use Rattle.session_laws.proofs.Plans.{rules_plans, rules_number, rules_threshold}
 use Rattle.session_script.specs.Asked.{Asked, Named, Numbers, numbers_of}
 use Rattle.session_script.specs.Kept.{IsNamed, AreChecked, IsAccepted}
@@ -49,21 +48,24 @@ params_are numbers h = refl
 
 -- ---- the setting
 
-named_keeps : (p : Params) (one : Named) → IsNamed (numbers_of p) one → is_switch_free one.nodes ≡ true → Keeps p (offered one)
-named_keeps p one named free = record { rules = named.rules; switch_free = free }
+named_keeps : (p : Params) (one : Named) → IsNamed (numbers_of p) one → Keeps p (offered one)
+named_keeps p one named = record { rules = named.rules }
 
 named_tells : (p : Params) (one : Named) → IsNamed (numbers_of p) one → Tells p (offered one)
 named_tells p one named = record { values = one.values; told = refl; number = named.count; plain = named.values }
 
-pub setting_is : (a : Asked) (h : IsAccepted a) → are_free a.circuits ≡ true → IsSetting (params_of a.numbers h.numbers) (setting_asked a)
+pub setting_is : (a : Asked) (h : IsAccepted a) → IsSetting (params_of a.numbers h.numbers) (setting_asked a)
 unfolding setting_asked
-setting_is a h free =
+setting_is a h =
     let p = params_of a.numbers h.numbers in
     record {
       numbers = refl;
-      circuits = All-map (Keeps p) offered a.circuits
-          (λ k d inside. named_keeps p (get_or a.circuits k d) (h.named k d inside) (AllPass-from_list_all is_free a.circuits free k d inside));
+      circuits = All-map (Keeps p) offered a.circuits (λ k d inside. named_keeps p (get_or a.circuits k d) (h.named k d inside));
     }
+
+pub needs_no_switch : (a : Asked) → are_free a.circuits ≡ true → NeedsNoSwitch (setting_asked a)
+unfolding setting_asked
+needs_no_switch a free = All-map IsSwitchFree offered a.circuits (λ k d inside. AllPass-from_list_all is_free a.circuits free k d inside)
 
 pub has_values : (a : Asked) (h : IsAccepted a) → HasValues (params_of a.numbers h.numbers) (setting_asked a)
 unfolding setting_asked

@@ -1,17 +1,19 @@
 -- What a script's session is about, and what stands in a state of it, in the words of the headline.
 use Rattle.std.specs.Prelude.{ℕ, List, [], slice_index_or}
 use Rattle.ring_spec.specs.Ring.{ring_sum}
-use Rattle.ring_spec.specs.Pairs.{Cipher, Key}
+use Rattle.ring_spec.specs.Pairs.{Cipher}
 use Rattle.bfv_spec.specs.Scheme.{decryption}
 use Rattle.circuit_form.specs.declared.node.Node.{Node}
+use Rattle.cipher_spec.specs.Keys.{Keys}
+use Rattle.proto_names.specs.Roles.{role_of}
 use Rattle.proto_names.specs.declared.instance.Instance.{Instance}
 use Rattle.session_rules.specs.declared.call.Entry.{Entry}
 use Rattle.session_rules.specs.declared.fixed.Fixed.{Fixed}
-use Rattle.session_rules.specs.States.{State}
+use Rattle.session_rules.specs.States.{State, threshold_at}
 use Rattle.session_rules.specs.Histories.{state_after}
 use Rattle.session_spec.specs.Settings.{rules, nodes_at, plain_at}
-use Rattle.session_spec.specs.Shares.{sum_rows}
-use Rattle.session_spec.specs.Outputs.{key_in, output_of, polys_of}
+use Rattle.session_spec.specs.Shares.{full_sums}
+use Rattle.session_spec.specs.Outputs.{keys_in, output_of, polys_of}
 use Rattle.session_script.specs.Asked.{Asked}
 use Rattle.run_report.specs.Reports.{setting_asked, seeds_asked}
 
@@ -29,25 +31,26 @@ nodes_asked a c = nodes_at (setting_asked a) c
 abbrev pub plain : Asked → ℕ → List ℕ
 plain a c = plain_at (setting_asked a) c
 
--- T for an instance: there is one group so far
+-- T for an instance: that of its group
 abbrev pub threshold_of : Asked → State → Instance → ℕ
-threshold_of a s i = (rules_asked a).threshold
+threshold_of a s i = threshold_at (rules_asked a) i.group
 
--- the public key in a state: p0 is the aggregate of its complete instance, p1 the common polynomial of that instance
-abbrev pub public_key : Asked → State → Key
-public_key a s = key_in (setting_asked a) (seeds_asked a) s.instances
+-- the keys of circuit c in a state, each made of the aggregate of its complete instance: of the public key p0 is that
+-- aggregate and p1 the instance's common polynomial
+abbrev pub keys : Asked → State → ℕ → Keys
+keys a s c = keys_in (setting_asked a) (seeds_asked a) s.instances c
 
--- the output of circuit c under that key
+-- the output of circuit c under these keys
 abbrev pub output : Asked → State → ℕ → Cipher
-output a s c = output_of (setting_asked a) (seeds_asked a) (public_key a s) c
+output a s c = output_of (setting_asked a) (seeds_asked a) (keys a s c) c
 
 -- the aggregate of an instance: row by row the sum modulo q of one honest share of each party j of its set P, of
--- s_j = lambda_j(P) * share_j, of the instance's common polynomial (public key) or c1 of the circuit's output
--- (decryption), and of noise from j's own stream with the instance's number. The other keys aren't made so far, and
--- have no shares
+-- s_j = lambda_j(P) * share_j, of the instance's common polynomials (a key), c1 of the circuit's output (a
+-- decryption) or the aggregate and j's u of its own first round (a second round), and of noise from j's own stream with
+-- the instance's number
 unfoldable pub aggregate : Asked → State → Instance → List (List ℕ)
 aggregate a s i =
-    sum_rows (setting_asked a) (seeds_asked a) i.signature i.id i.set.bits (polys_of (setting_asked a) (seeds_asked a) (public_key a s) i.signature) i.set.bits
+    full_sums (setting_asked a) (seeds_asked a) (role_of i) (polys_of (setting_asked a) (seeds_asked a) (keys a s) (role_of i))
 
 -- what is decrypted from the output of circuit c with the aggregate of a decryption: c0 and the aggregate's row
 -- are added, and each coefficient is scaled by t / q, rounded and reduced modulo t

@@ -6,12 +6,11 @@ use Rattle.std.proofs.lemmas.List.Elements.{All-same, All-map, All-weaker}
 use Rattle.std.proofs.lemmas.List.Sums.{AllPass-from_list_all}
 use Rattle.draw_spec.specs.Streams.{party_seed}
 use Rattle.param_set.specs.declared.params.Params.{Params}
-use Rattle.cipher_spec.specs.Ciphers.{is_switch_free}
 use Rattle.party_roll.specs.Seeds.{seeds_told, seeds_of}
 use Rattle.session_rules.specs.declared.call.Entry.{Entry}
 use Rattle.session_script.specs.Asked.{Asked, Named, Numbers, numbers_of}
 use Rattle.session_script.specs.Kept.{IsNamed, AreNamed, IsAccepted}
-use Rattle.session_spec.specs.Settings.{Setting, Offer, Keeps, rules}
+use Rattle.session_spec.specs.Settings.{Setting, Offer, Keeps, IsSwitchFree, NeedsNoSwitch, rules}
 use Rattle.session_state.specs.Parts.{setting_by}
 use Rattle.session_core.specs.Sessions.{IsModest, HasTold}
 use Rattle.run_report.specs.Reports.{offered, setting_asked, seeds_asked, report}
@@ -25,19 +24,22 @@ use Rattle.helper_main.specs.Runs.{serial_report}
 
 -- ---- the circuits
 
-named_keeps : (s : Params) (a : Asked) (one : Named) → a.numbers ≡ numbers_of s → IsNamed a.numbers one → is_switch_free one.nodes ≡ true → Keeps s (offered one)
-named_keeps s a one numbers named free = record {
-  rules = (subst (λ (z : Numbers). IsNamed z one) numbers named).rules;
-  switch_free = free;
-}
+named_keeps : (s : Params) (a : Asked) (one : Named) → a.numbers ≡ numbers_of s → IsNamed a.numbers one → Keeps s (offered one)
+named_keeps s a one numbers named = record { rules = (subst (λ (z : Numbers). IsNamed z one) numbers named).rules }
 
-all_keep : (s : Params) (a : Asked) → a.numbers ≡ numbers_of s → are_free a.circuits ≡ true → AreNamed a → All (λ (z : Named). Keeps s (offered z)) a.circuits
-all_keep s a numbers free named = λ k d inside. named_keeps s a (get_or a.circuits k d) numbers (named k d inside) (AllPass-from_list_all is_free a.circuits free k d inside)
+all_keep : (s : Params) (a : Asked) → a.numbers ≡ numbers_of s → AreNamed a → All (λ (z : Named). Keeps s (offered z)) a.circuits
+all_keep s a numbers named = λ k d inside. named_keeps s a (get_or a.circuits k d) numbers (named k d inside)
 
-pub keeps : (a : Asked) (p s : Params) (circuits : List Offer) → a.numbers ≡ numbers_of s → p ≡ s → are_free a.circuits ≡ true → AreNamed a → circuits ≡ map offered a.circuits → All (Keeps p) circuits
-keeps a p s circuits numbers same free named is =
+pub keeps : (a : Asked) (p s : Params) (circuits : List Offer) → a.numbers ≡ numbers_of s → p ≡ s → AreNamed a → circuits ≡ map offered a.circuits → All (Keeps p) circuits
+keeps a p s circuits numbers same named is =
     subst (λ (z : Params). All (Keeps z) circuits) (sym same)
-    (All-same (Keeps s) circuits (map offered a.circuits) is (All-map (Keeps s) offered a.circuits (all_keep s a numbers free named)))
+    (All-same (Keeps s) circuits (map offered a.circuits) is (All-map (Keeps s) offered a.circuits (all_keep s a numbers named)))
+
+-- none needs a key switch
+pub free_ones : (a : Asked) (p : Params) (public : List ℕ) (circuits : List Offer) → are_free a.circuits ≡ true → circuits ≡ map offered a.circuits → NeedsNoSwitch (setting_by p public circuits)
+free_ones a p public circuits free is =
+    All-same IsSwitchFree circuits (map offered a.circuits) is
+    (All-map IsSwitchFree offered a.circuits (λ k d inside. AllPass-from_list_all is_free a.circuits free k d inside))
 
 named_told : (s : Params) (named : Named) → IsNamed (numbers_of s) named → HasTold s (offered named)
 named_told s named h = record { told = refl; number = h.count; plain = h.values }

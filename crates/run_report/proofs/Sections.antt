@@ -15,7 +15,7 @@ use Rattle.session_rules.specs.States.{State, circuit}
 use Rattle.session_rules.specs.Histories.{state_after}
 use Rattle.session_script.specs.Asked.{Asked}
 use Rattle.session_spec.specs.Settings.{Setting, rules, plain_at}
-use Rattle.session_spec.specs.Outputs.{key_in, output_of, sums_of}
+use Rattle.session_spec.specs.Outputs.{keys_in, output_of, sums_of}
 use Rattle.session_state.specs.declared.standing.Standing.{Standing}
 use Rattle.session_state.specs.Standings.{setting, state, rules_of}
 use Rattle.session_rules.specs.Facts.{is_settled, Numbered}
@@ -52,13 +52,13 @@ circuit_same a st c same = ap (λ (w : Setting). state_line (name_at a c) (plain
 output_same : (a : Asked) (st : Standing) (master : List ℕ) (c : ℕ) → setting st ≡ setting_asked a → master ≡ a.master → told_output (name_at a c) st master c ≡ output_text a (state st) c
 unfolding told_output output_text
 output_same a st master c same roll =
-    ap₂ (λ (w : Setting) (seeds : List (List ℕ)). cond (is_settled (circuit (state st).circuits c)) (output_line (name_at a c) (output_of w seeds (key_in w seeds (state st).instances) c)) [])
+    ap₂ (λ (w : Setting) (seeds : List (List ℕ)). cond (is_settled (circuit (state st).circuits c)) (output_line (name_at a c) (output_of w seeds (keys_in w seeds (state st).instances c) c)) [])
     same (seeds_same a st master same roll)
 
 instance_same : (a : Asked) (st : Standing) (master : List ℕ) (i : Instance) → setting st ≡ setting_asked a → master ≡ a.master → told_instance st master i ≡ instance_text a (state st) i
 unfolding told_instance told_digest instance_text
 instance_same a st master i same roll =
-    ap₂ (λ (w : Setting) (seeds : List (List ℕ)). instance_line i (polys_digest (sums_of w seeds (key_in w seeds (state st).instances) i)))
+    ap₂ (λ (w : Setting) (seeds : List (List ℕ)). instance_line i (polys_digest (sums_of w seeds (keys_in w seeds (state st).instances) i)))
     same (seeds_same a st master same roll)
 
 pub circuits_more : (a : Asked) (st : Standing) (bs : List ℕ) (c : ℕ) → setting st ≡ setting_asked a → (bs ++ flat_map (circuit_text a (state st)) (range_with_len 0 c)) ++ told_circuit (name_at a c) st c ≡ bs ++ flat_map (circuit_text a (state st)) (range_with_len 0 (c + 1))

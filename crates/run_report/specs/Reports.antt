@@ -15,7 +15,7 @@ use Rattle.session_rules.specs.Facts.{is_settled}
 use Rattle.session_rules.specs.Histories.{state_after}
 use Rattle.session_script.specs.Asked.{Asked, Named}
 use Rattle.session_spec.specs.Settings.{Setting, Offer, rules, plain_at}
-use Rattle.session_spec.specs.Outputs.{key_in, output_of, sums_of}
+use Rattle.session_spec.specs.Outputs.{keys_in, output_of, sums_of}
 use Rattle.event_lines.specs.Instances.{instance_line}
 use Rattle.event_lines.specs.Events.{event_line}
 use Rattle.run_report.specs.Digests.{polys_digest}
@@ -81,13 +81,13 @@ circuit_text a s c = state_line (name_at a c) (plain_at (setting_asked a) c) (ci
 unfoldable pub output_text : Asked → State → ℕ → List ℕ
 output_text a s c =
     cond (is_settled (circuit s.circuits c))
-    (output_line (name_at a c) (output_of (setting_asked a) (seeds_asked a) (key_in (setting_asked a) (seeds_asked a) s.instances) c)) []
+    (output_line (name_at a c) (output_of (setting_asked a) (seeds_asked a) (keys_in (setting_asked a) (seeds_asked a) s.instances c) c)) []
 
 -- ---- an instance, with the digest of the sums of honest shares
 
 unfoldable pub instance_text : Asked → State → Instance → List ℕ
 instance_text a s i =
-    instance_line i (polys_digest (sums_of (setting_asked a) (seeds_asked a) (key_in (setting_asked a) (seeds_asked a) s.instances) i))
+    instance_line i (polys_digest (sums_of (setting_asked a) (seeds_asked a) (keys_in (setting_asked a) (seeds_asked a) s.instances) i))
 
 -- ---- the report: circuits, outputs, instances, events
 

@@ -6,7 +6,7 @@ use Rattle.proto_names.specs.declared.instance.Instance.{Instance}
 use Rattle.session_rules.specs.States.{circuit}
 use Rattle.session_rules.specs.Facts.{is_settled}
 use Rattle.session_spec.specs.Settings.{plain_at}
-use Rattle.session_spec.specs.Outputs.{key_in, output_of, sums_of}
+use Rattle.session_spec.specs.Outputs.{keys_in, output_of, sums_of}
 use Rattle.session_state.specs.declared.standing.Standing.{Standing}
 use Rattle.session_state.specs.Standings.{setting, state}
 use Rattle.event_lines.specs.Instances.{instance_line}
@@ -26,12 +26,12 @@ told_circuit name st c = state_line name (plain_at (setting st) c) (circuit (sta
 unfoldable pub told_output : List ℕ → Standing → List ℕ → ℕ → List ℕ
 told_output name st master c =
     cond (is_settled (circuit (state st).circuits c))
-    (output_line name (output_of (setting st) (seeds_of st master) (key_in (setting st) (seeds_of st master) (state st).instances) c)) []
+    (output_line name (output_of (setting st) (seeds_of st master) (keys_in (setting st) (seeds_of st master) (state st).instances c) c)) []
 
 -- the digest of the sums of an instance, and its line
 unfoldable pub told_digest : Standing → List ℕ → Instance → List ℕ
 told_digest st master i =
-    polys_digest (sums_of (setting st) (seeds_of st master) (key_in (setting st) (seeds_of st master) (state st).instances) i)
+    polys_digest (sums_of (setting st) (seeds_of st master) (keys_in (setting st) (seeds_of st master) (state st).instances) i)
 
 unfoldable pub told_instance : Standing → List ℕ → Instance → List ℕ
 told_instance st master i = instance_line i (told_digest st master i)

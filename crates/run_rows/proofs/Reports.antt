@@ -12,7 +12,7 @@ use Rattle.session_rules.specs.declared.state.CircuitState.{CircuitState}
 use Rattle.session_rules.specs.declared.state.CircuitState.TheVariants.{Idle, Taken, Evaluated, Answered}
 use Rattle.session_rules.specs.States.{State, circuit, seen}
 use Rattle.session_spec.specs.Settings.{rules, plain_at}
-use Rattle.session_spec.specs.Outputs.{key_in, output_of}
+use Rattle.session_spec.specs.Outputs.{keys_in, output_of}
 use Rattle.session_state.specs.declared.standing.Standing.{Standing}
 use Rattle.session_state.specs.Standings.{setting}
 use Rattle.event_lines.specs.Lists.{following, by_commas}
@@ -79,7 +79,7 @@ unfolding output_text
 output_of_open = (refl, refl)
 
 abbrev output_is : List ℕ
-output_is = output_line (codes "c") (output_of (setting_asked (about (sum ∷ []))) (seeds_asked (about (sum ∷ []))) (key_in (setting_asked (about (sum ∷ []))) (seeds_asked (about (sum ∷ []))) []) 0)
+output_is = output_line (codes "c") (output_of (setting_asked (about (sum ∷ []))) (seeds_asked (about (sum ∷ []))) (keys_in (setting_asked (about (sum ∷ []))) (seeds_asked (about (sum ∷ []))) [] 0) 0)
 
 pub output_of_evaluated : (output_text (about (sum ∷ [])) (with_circuit Evaluated) 0 ≡ output_is) × (output_text (about (sum ∷ [])) (with_circuit Answered) 0 ≡ output_is)
 unfolding output_text
