@@ -31,7 +31,7 @@ use Rattle.session_rules.specs.Issues.{keys, wants_key, wants_relin}
 use Rattle.session_rules.specs.Fixing.{plan_of, fixed_from, rotates, admits_turn, is_turned}
 use Rattle.session_spec.specs.Settings.{Setting, Offer, nodes_of, nodes_at, no_offer, rules, Keeps, IsSwitchFree}
 use Rattle.session_spec.specs.Stores.{Store, no_inputs, empty, held_key}
-use Rattle.session_spec.specs.Outputs.{done_instance, key_instance}
+use Rattle.session_spec.specs.Outputs.{done_instance}
 use Rattle.session_spec.specs.Honesty.{count_inputs, Matches}
 use Rattle.session_state.specs.Parts.{setting_by, Holds, IsPk}
 use Rattle.session_state.proofs.Rows.{rules_number, plan_inputs, row_length}

@@ -1,5 +1,5 @@
 -- What is handed out: briefs and jobs.
-use Rattle.std.specs.Prelude.{◌≡◌, ◌⊎◌, ℕ, Bool, true, false, List, [], map, length, slice_index_or, All, None, IsSome}
+use Rattle.std.specs.Prelude.{◌≡◌, ◌⊎◌, ℕ, Bool, true, false, [], map, length, slice_index_or, All, None, IsSome}
 use Rattle.ring_spec.specs.Pairs.{CipherFits}
 use Rattle.param_set.specs.declared.params.Params.{Params}
 use Rattle.circuit_form.specs.Circuits.{first_fault, owners}

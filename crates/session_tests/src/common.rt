@@ -2,7 +2,7 @@
 ghost use Rattle.std.specs.Prelude.{◌≡◌, false, length, All, IfOk, IfSome};
 ghost use Rattle.param_set.specs.Numbers.{numbers_of};
 ghost use Rattle.ring_spec.specs.Pairs.{CipherFits};
-ghost use Rattle.session_spec.specs.Settings.{Keeps};
+ghost use Rattle.session_spec.specs.Settings.{Keeps, IsSwitchFree};
 
 use circuit_form::{Circuit, Node};
 use mod_ring::{Ciphertext, Ring, zero};
@@ -43,6 +43,7 @@ pub fn frame(parties: u64, threshold: u64) -> Result<Params, ParamFault>
 #[tactic(auto, unfolding(cipher_spec::specs::Ciphers::is_switch_free))]
 pub fn one_sum(alloc: Global, params: &Params) -> Result<Option<Circuits>, AllocError>
     ensures keep { IfOk result (λ made. IfSome made (λ circuits. All (Keeps params.now) circuits)) }
+    ensures free { IfOk result (λ made. IfSome made (λ circuits. All IsSwitchFree circuits)) }
     ensures one { IfOk result (λ made. IfSome made (λ circuits. length circuits ≡ 1)) }
 {
     let nodes = vec![in alloc;
