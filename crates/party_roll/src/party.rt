@@ -8,10 +8,11 @@ ghost use Rattle.param_set.specs.Moduli.{digit_rows};
 ghost use Rattle.param_set.specs.declared.params.Params.{Params};
 ghost use Rattle.param_set.specs.Numbers.{numbers_of};
 ghost use Rattle.proto_names.specs.Names.{rows_of};
-ghost use Rattle.session_spec.specs.Settings.{Setting, seed_at};
+ghost use Rattle.share_spec.specs.Seeds.{seed_in};
+ghost use Rattle.session_spec.specs.Settings.{Setting};
 ghost use Rattle.session_spec.specs.Shares.{share_rows};
 ghost use Rattle.party_roll.specs.declared.placed.Placed.{Placed};
-ghost use Rattle.party_roll.specs.Briefs.{IsBrief};
+ghost use Rattle.party_roll.specs.Briefs.{IsBrief, brief_role};
 ghost use Rattle.party_roll.specs.Values.{value_in};
 
 use instance_table::{Brief, Share};
@@ -53,7 +54,7 @@ pub trait Party: Sync {
         ensures rows { IfOk result (λ share. length share.rows ≡ rows_of brief.now.signature (digit_rows ring.now.params.q ring.now.params.digit_bits)) }
         ensures fit { IfOk result (λ share. All (Fits ring.now) share.rows) }
         ensures honest { (w : Setting) → w.numbers ≡ numbers_of ring.now.params → w.public ≡ public self.now → tells self.now ≡ true
-            → IfOk result (λ share. share.rows ≡ share_rows w (seeds self.now) brief.now.signature brief.now.id brief.now.set.bits brief.now.polys (number self.now)) };
+            → IfOk result (λ share. share.rows ≡ share_rows w (seeds self.now) (brief_role brief.now) brief.now.polys (number self.now)) };
 
     /// The encryption of its value for an input of a circuit, under a public key.
     fn input(
@@ -71,5 +72,5 @@ pub trait Party: Sync {
         requires input { input < 65536 }
         ensures fits { IfOk result (λ c. CipherFits ring.now.params.q ring.now.params.n c) }
         ensures honest { (m : List ℕ) → value_in (values self.now) circuit input ≡ Some m → tells self.now ≡ true
-            → IfOk result (λ c. c ≡ drawn_encryption ring.now.params.q ring.now.params.n ring.now.params.t ring.now.params.err key.now m (seed_at (seeds self.now) (number self.now)) (input_stream circuit input) 0) };
+            → IfOk result (λ c. c ≡ drawn_encryption ring.now.params.q ring.now.params.n ring.now.params.t ring.now.params.err key.now m (seed_in (seeds self.now) (number self.now)) (input_stream circuit input) 0) };
 }

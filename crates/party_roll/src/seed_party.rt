@@ -149,7 +149,7 @@ impl SeedParty {
     ghost use Rattle.session_spec.specs.Shares.{share_rows};
     ghost use Rattle.param_set.specs.Moduli.{digit_rows};
     ghost use Rattle.proto_names.specs.Names.{rows_of};
-    ghost use Rattle.party_roll.specs.Briefs.{IsBrief};
+    ghost use Rattle.party_roll.specs.Briefs.{IsBrief, brief_role};
     ghost use Rattle.std.specs.Prelude.{length};
 
     /// The rows of its share of an instance.
@@ -160,7 +160,7 @@ impl SeedParty {
         ensures number { IfOk result (λ rows. length rows ≡ rows_of brief.now.signature (digit_rows ring.now.params.q ring.now.params.digit_bits)) }
         ensures fits { IfOk result (λ rows. All (Fits ring.now) rows) }
         ensures value { (w : Setting) → w.numbers ≡ numbers_of ring.now.params → w.public ≡ party_seed self.now.roll.master 0
-            → IfOk result (λ rows. rows ≡ share_rows w (seeds_of self.now.roll.master ring.now.params.parties) brief.now.signature brief.now.id brief.now.set.bits brief.now.polys self.now.number) }
+            → IfOk result (λ rows. rows ≡ share_rows w (seeds_of self.now.roll.master ring.now.params.parties) (brief_role brief.now) brief.now.polys self.now.number) }
     {
         match brief.signature {
             Signature::Pk => self.key_share(alloc, ring, brief.id, brief.set),
