@@ -8,7 +8,9 @@ use Rattle.bfv_spec.specs.Drawn.{drawn_encryption}
 use Rattle.circuit_form.specs.declared.node.Node.{Node}
 use Rattle.circuit_form.specs.Circuits.{owners}
 use Rattle.param_set.specs.Numbers.{Numbers, numbers_of}
-use Rattle.cipher_spec.specs.Ciphers.{output_cipher}
+use Rattle.cipher_spec.specs.Keys.{Keys, no_keys}
+use Rattle.cipher_spec.specs.Ciphers.{is_switch_free, output_cipher}
+use Rattle.circuit_laws.proofs.SwitchFree.{keys_are_not_used}
 use Rattle.std.specs.Option.{IfSome}
 use Rattle.std.specs.declared.alloc.Global.{Global}
 use Rattle.std.specs.declared.sync.Arc.{Arc}
@@ -23,7 +25,9 @@ use Rattle.proto_names.specs.declared.instance.Stage.{Stage}
 use Rattle.proto_names.specs.declared.instance.Stage.TheVariants.{Opened, Complete, Void}
 use Rattle.instance_table.specs.declared.brief.Brief.{Brief}
 use Rattle.param_set.specs.declared.params.Params.{Params}
-use Rattle.party_roll.specs.Briefs.{is_made, IsBrief}
+use Rattle.share_spec.specs.Seeds.{seed_in}
+use Rattle.proto_names.specs.Roles.{Role, role_of}
+use Rattle.party_roll.specs.Briefs.{is_made, IsBrief, brief_role}
 use Rattle.session_rules.specs.declared.call.Call.TheVariants as call
 use Rattle.session_rules.specs.declared.reply.Reply.{Reply}
 use Rattle.session_rules.specs.declared.reply.Reply.TheVariants as reply
@@ -39,9 +43,9 @@ use Rattle.session_rules.specs.Histories.{state_after}
 use Rattle.session_rules.proofs.Keeps.{histories_keep}
 use Rattle.session_laws.proofs.Plans.{rules_plans, rules_number}
 use Rattle.session_rules.proofs.Marks.{instance_id}
-use Rattle.session_spec.specs.Settings.{Setting, nodes_of, no_offer, nodes_at, value_at, owner_at, seed_at}
+use Rattle.session_spec.specs.Settings.{Setting, nodes_of, no_offer, nodes_at, value_at, owner_at}
 use Rattle.session_spec.specs.Shares.{share_rows}
-use Rattle.session_spec.specs.Outputs.{key_in, polys_of, share_of, input_of, inputs_of, output_of}
+use Rattle.session_spec.specs.Outputs.{key_in, keys_in, polys_of, share_of, input_of, inputs_of, output_of}
 use Rattle.session_spec.specs.Stores.{Store}
 use Rattle.session_spec.specs.Settings.{rules}
 use Rattle.lane_workers.specs.Acting.{Owns}
@@ -91,12 +95,18 @@ pub silent : (f : Fixed) (s : State) (id : ℕ) → ((i : Instance) → instance
 unfolding step judge brief
 silent f s id never = silent_by s id (instance s.instances id) refl never
 
+-- the role that a brief tells is its instance's
+role_is : (params : Params) (h : Store) (i : Instance) (b : Brief) → IsBriefOf params h i b → brief_role b ≡ role_of i
+role_is params h i b t = rw (t.signature, t.id, t.set, t.round1, t.group) refl
+
 -- a share that an honest party makes by its brief is the honest one of the instance
-pub share_made : (w : Setting) (seeds : List (List ℕ)) (key : Key) (params : Params) (h : Store) (i : Instance) (b : Brief) (p : ℕ) (rows : List (List ℕ)) → IsBriefOf params h i b
-    → b.polys ≡ polys_of w seeds key b.signature → rows ≡ share_rows w seeds b.signature b.id b.set.bits b.polys p → rows ≡ share_of w seeds key i p
+pub share_made : (w : Setting) (seeds : List (List ℕ)) (keys : ℕ → Keys) (params : Params) (h : Store) (i : Instance) (b : Brief) (p : ℕ) (rows : List (List ℕ)) → IsBriefOf params h i b
+    → b.polys ≡ polys_of w seeds keys (brief_role b) → rows ≡ share_rows w seeds (brief_role b) b.polys p → rows ≡ share_of w seeds keys i p
 unfolding share_of
-share_made w seeds key params h i b p rows t polys made =
-    made ∙ rw (polys, t.id, t.signature, t.set) refl
+share_made w seeds keys params h i b p rows t polys made =
+    let is = role_is params h i b t in
+    made ∙ ap (λ (role : Role). share_rows w seeds role b.polys p) is
+    ∙ ap (λ (all : List (List ℕ)). share_rows w seeds (role_of i) all p) (polys ∙ ap (λ (role : Role). polys_of w seeds keys role) is)
 
 -- the brief of an instance has its number
 pub brief_number : (f : Fixed) (log : List Entry) (id : ℕ) (s : State) (params : Params) (h : Store) (b : Brief) (r : Reply) → s ≡ state_after f log
@@ -119,14 +129,14 @@ pub record IsBriefed (k : Known) (s : State) (h : Store) (id : ℕ) (r : Reply) 
   pub told : (i : Instance) → instance s.instances id ≡ Some i → IsBriefOf k.params h i a
   pub goes : r ≡ brief_reply a
   pub made : IsBrief k.params a
-  pub honest : k.tells ≡ true → a.polys ≡ polys_of k.setting k.seeds (key_in k.setting k.seeds s.instances) a.signature
+  pub honest : k.tells ≡ true → a.polys ≡ polys_of k.setting k.seeds (keys_in k.setting k.seeds s.instances) (brief_role a)
 
 pub handed : (k : Known) (s : State) (h : Store) (id : ℕ) (b : Briefing) (arc : Arc Brief Global) (a : Brief) → HandsBrief id k s h b → b.brief ≡ Some arc → a ≡ arc.value → IsBriefed k s h id b.reply a
 handed k s h id b arc a x is v = record {
   told = at_arc (λ z. (i : Instance) → instance s.instances id ≡ Some i → IsBriefOf k.params h i z) b.brief arc a is v x.told;
   goes = at_arc (λ z. b.reply ≡ brief_reply z) b.brief arc a is v x.goes;
   made = at_arc (λ z. IsBrief k.params z) b.brief arc a is v x.made;
-  honest = λ t. at_arc (λ z. z.polys ≡ polys_of k.setting k.seeds (key_in k.setting k.seeds s.instances) z.signature) b.brief arc a is v (x.honest t);
+  honest = λ t. at_arc (λ z. z.polys ≡ polys_of k.setting k.seeds (keys_in k.setting k.seeds s.instances) (brief_role z)) b.brief arc a is v (x.honest t);
 }
 
 -- ---- outputs and inputs
@@ -135,12 +145,14 @@ pub at_some : {X : Type 0} (P : X → Type 0) (o : Option X) (x : X) → o ≡ S
 at_some P None x e h = cc
 at_some P (Some y) x e h = let same : y ≡ x = cc in subst P same h
 
--- an output that is evaluated from the inputs is the circuit's
+-- an output that is evaluated from the inputs is the circuit's, which needs no key switch
 pub output_brought : (w : Setting) (seeds : List (List ℕ)) (is : List Instance) (c : ℕ) (ct : Cipher) (inputs : List Cipher) (nodes : List Node) (p : Params) → w.numbers ≡ numbers_of p
-    → inputs ≡ inputs_of w seeds (key_in w seeds is) c → nodes ≡ nodes_at w c → ct ≡ output_cipher p.q p.n p.t inputs nodes → ct ≡ output_of w seeds (key_in w seeds is) c
-unfolding output_of
-output_brought w seeds is c ct inputs nodes p numbers its its_nodes made =
-    made ∙ rw (its, its_nodes) (ap (λ (z : Numbers). output_cipher z.q z.n z.t (inputs_of w seeds (key_in w seeds is) c) (nodes_at w c)) (sym numbers))
+    → is_switch_free nodes ≡ true → inputs ≡ inputs_of w seeds (key_in w seeds is) c → nodes ≡ nodes_at w c → ct ≡ output_cipher (numbers_of p) no_keys inputs nodes
+    → ct ≡ output_of w seeds (keys_in w seeds is c) c
+unfolding output_of keys_in
+output_brought w seeds is c ct inputs nodes p numbers free its its_nodes made =
+    made ∙ keys_are_not_used (numbers_of p) no_keys (keys_in w seeds is c) inputs nodes free
+    ∙ rw (its, its_nodes) (ap (λ (z : Numbers). output_cipher z (keys_in w seeds is c) (inputs_of w seeds (key_in w seeds is) c) (nodes_at w c)) (sym numbers))
 
 plan_owners : (p : Numbers) (nodes : List Node) → (plan_of p nodes).owners ≡ owners nodes
 unfolding plan_of
@@ -186,8 +198,8 @@ few_places w c k few_circuits few_inputs its =
 -- an input that its owner encrypts under the public key is the circuit's
 pub input_brought : (w : Setting) (seeds : List (List ℕ)) (is : List Instance) (key : Key) (c k number : ℕ) (ct : Cipher) (p : Params) → w.numbers ≡ numbers_of p
     → key ≡ key_in w seeds is → Owns w number c k
-    → ct ≡ drawn_encryption p.q p.n p.t p.err key (value_at w c k) (seed_at seeds number) (input_stream c k) 0 → ct ≡ input_of w seeds (key_in w seeds is) c k
+    → ct ≡ drawn_encryption p.q p.n p.t p.err key (value_at w c k) (seed_in seeds number) (input_stream c k) 0 → ct ≡ input_of w seeds (key_in w seeds is) c k
 unfolding input_of
 input_brought w seeds is key c k number ct p numbers its own made =
     let owner : number ≡ owner_at w c k = sym own.owner ∙ owner_planned w c k in
-    made ∙ rw (its, owner) (ap (λ (z : Numbers). drawn_encryption z.q z.n z.t z.err (key_in w seeds is) (value_at w c k) (seed_at seeds (owner_at w c k)) (input_stream c k) 0) (sym numbers))
+    made ∙ rw (its, owner) (ap (λ (z : Numbers). drawn_encryption z.q z.n z.t z.err (key_in w seeds is) (value_at w c k) (seed_in seeds (owner_at w c k)) (input_stream c k) 0) (sym numbers))

@@ -23,7 +23,7 @@ use Rattle.session_rules.proofs.Deliveries.{keys_stay}
 use Rattle.session_rules.proofs.Keeps.{after_next, histories_keep}
 use Rattle.session_rules.proofs.Runs.{after_append}
 use Rattle.session_spec.specs.Settings.{Setting, rules}
-use Rattle.session_spec.specs.Outputs.{key_instance, key_in}
+use Rattle.session_spec.specs.Outputs.{done_instance, key_instance, key_in}
 use Rattle.session_spec.specs.Stores.{Store, held_key, key_by}
 use Rattle.session_rules.proofs.Issued.{done_here}
 use Rattle.session_laws.proofs.Keys.{key_found, key_stays}
@@ -69,7 +69,7 @@ owed_own w s p = own_all w s p (has_done Pk s.instances)
 -- ---- without a key there are none
 
 key_done : (is : List Instance) (w : Setting) (h : Store) (o : Option Instance) → key_instance is ≡ o → option_map (key_by w h) o ≡ None → has_done Pk is ≡ false
-unfolding key_instance has_done
+unfolding done_instance has_done
 key_done is w h None e n = none_from_find (is_done Pk) is e
 key_done is w h (Some i) e n = cc
 

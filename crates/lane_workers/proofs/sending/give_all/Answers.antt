@@ -8,7 +8,8 @@ use Rattle.session_rules.specs.declared.call.Call.TheVariants as call
 use Rattle.session_rules.specs.declared.fixed.Fixed.{Fixed}
 use Rattle.session_rules.specs.States.{plan}
 use Rattle.session_rules.specs.Tasks.{gives_at}
-use Rattle.session_spec.specs.Settings.{seed_at, value_at}
+use Rattle.share_spec.specs.Seeds.{seed_in}
+use Rattle.session_spec.specs.Settings.{value_at}
 use Rattle.session_core.specs.Sessions.{Known, BringsInputTo}
 use Rattle.session_core.specs.Calls.{known, state_of}
 use Rattle.session_core.specs.declared.stop.Stop.TheVariants.{NoMemory}
@@ -54,7 +55,7 @@ input-requires-in-places-clause-ct g c κs within =
       fits = subst (λ (z : Params). CipherFits z.q z.n ct) c.requires.ring e.fits;
       honest = λ t given.
           let h = c.requires.party.honest t in
-          let made = subst (λ (z : List (List ℕ)). ct ≡ drawn_encryption p.q p.n p.t p.err c.args.key.now (value_at k.setting place.0 place.1) (seed_at z number) (input_stream place.0 place.1) 0) h.same
+          let made = subst (λ (z : List (List ℕ)). ct ≡ drawn_encryption p.q p.n p.t p.err c.args.key.now (value_at k.setting place.0 place.1) (seed_in z number) (input_stream place.0 place.1) 0) h.same
           (e.honest (value_at k.setting place.0 place.1) (h.values place.0 place.1 own.there own.owner) h.tells) in
           let stays = key_later k.setting (known mid).setting k.seeds (state_of old) (state_of mid) old.log.items mid.log.items i.doing.made (ap (λ (z : Known). z.setting) (known_is old mid i.about))
           old.state_is mid.state_is i.doing.log c.requires.key.complete in

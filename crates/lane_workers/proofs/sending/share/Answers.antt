@@ -4,12 +4,13 @@ use Rattle.proto_names.specs.Instances.{instance}
 use Rattle.ring_spec.specs.Ring.{IsPoly}
 use Rattle.param_set.specs.Numbers.{numbers_of}
 use Rattle.param_set.specs.declared.params.Params.{Params}
+use Rattle.party_roll.specs.Briefs.{brief_role}
 use Rattle.session_rules.specs.declared.call.Call.{Call}
 use Rattle.session_rules.specs.declared.call.Call.TheVariants as call
 use Rattle.session_rules.specs.States.{State}
 use Rattle.session_rules.specs.Tasks.{shares, delivers, share_for, delivery, briefed}
 use Rattle.session_spec.specs.Shares.{share_rows}
-use Rattle.session_spec.specs.Outputs.{key_in, share_of}
+use Rattle.session_spec.specs.Outputs.{keys_in, share_of}
 use Rattle.session_laws.proofs.Plans.{rules_rows}
 use Rattle.session_core.specs.Sessions.{Known, BringsShareTo}
 use Rattle.session_core.specs.Calls.{known, state_of, store_of, brings, Made}
@@ -33,7 +34,7 @@ deliver-requires-clause-share g c κs within =
     let e = c.in_ok-share-in-Some.ensures in
     let share = c.in_ok-share-in-Some.share in
     let a = c.deref.result.now in
-    let key = key_in k.setting k.seeds (state_of old).instances in
+    let keys = keys_in k.setting k.seeds (state_of old).instances in
     let its = handed k (state_of old) (store_of old) id c.in_ok-briefing.briefing c.in-Some.brief a b.brief c.in-Some.is c.deref.ensures in
     let number = brief_number (rules_for old) old.log.items id (state_of old) k.params (store_of old) a c.in_ok-briefing.briefing.reply old.state_is b.called.made.reply its.goes its.told in
     let states : state_of mid ≡ state_of old = b.called.made.state ∙ brief_stays (rules_for old) (state_behind old) 0 id ∙ sym old.state_is in
@@ -44,10 +45,10 @@ deliver-requires-clause-share g c κs within =
       honest = λ t i found lacks len.
           let h = c.requires.party.honest t in
           let here : instance (state_of old).instances id ≡ Some i = subst (λ (z : ℕ). instance (state_of old).instances z ≡ Some i) (e.id ∙ number) found in
-          let made : share.rows ≡ share_rows k.setting k.seeds a.signature a.id a.set.bits a.polys p =
-          subst (λ (z : List (List ℕ)). share.rows ≡ share_rows k.setting z a.signature a.id a.set.bits a.polys p) h.same (e.honest k.setting (ap numbers_of (sym c.requires.ring)) (sym h.public) h.tells) in
-          subst (λ (z : ℕ). share.rows ≡ share_of k.setting k.seeds key i z) (sym e.party)
-          (share_made k.setting k.seeds key k.params (store_of old) i a p share.rows (its.told i here) (its.honest t) made);
+          let made : share.rows ≡ share_rows k.setting k.seeds (brief_role a) a.polys p =
+          subst (λ (z : List (List ℕ)). share.rows ≡ share_rows k.setting z (brief_role a) a.polys p) h.same (e.honest k.setting (ap numbers_of (sym c.requires.ring)) (sym h.public) h.tells) in
+          subst (λ (z : ℕ). share.rows ≡ share_of k.setting k.seeds keys i z) (sym e.party)
+          (share_made k.setting k.seeds keys k.params (store_of old) i a p share.rows (its.told i here) (its.honest t) made);
     }))
 
 pub returns-clause-done : goal.returns-clause-done
