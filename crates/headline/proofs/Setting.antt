@@ -63,6 +63,7 @@ setting_is a h =
       circuits = All-map (Keeps p) offered a.circuits (λ k d inside. named_keeps p (get_or a.circuits k d) (h.named k d inside));
     }
 
+-- circuits that rotate by nothing and multiply no two encrypted values
 pub needs_no_switch : (a : Asked) → are_free a.circuits ≡ true → NeedsNoSwitch (setting_asked a)
 unfolding setting_asked
 needs_no_switch a free = All-map IsSwitchFree offered a.circuits (λ k d inside. AllPass-from_list_all is_free a.circuits free k d inside)

@@ -1,12 +1,12 @@
 -- What T parties decrypt of a circuit that is answered is its plain value.
-use Rattle.std.proofs.Common.{◌≡◌, ◌∙◌, sym, ap, refl, ℕ, ◌<◌, true, false, inl, inr, List, [], ◌∷◌, length, slice_index_or, arith}
+use Rattle.std.proofs.Common.{◌≡◌, ◌∙◌, sym, ap, refl, ℕ, ◌<◌, true, false, inl, inr, List, [], length, slice_index_or, arith}
 use Rattle.ring_spec.specs.Ring.{ring_sum}
 use Rattle.bfv_spec.specs.Scheme.{decryption}
 use Rattle.share_spec.specs.Sets.{count}
 use Rattle.circuit_laws.proofs.Outputs.{outputs_carry}
 use Rattle.proto_names.specs.declared.signature.Signature.{Signature}
-use Rattle.proto_names.specs.declared.signature.Signature.TheVariants.{Pk, Dec}
 use Rattle.proto_names.specs.Roles.{role_of}
+use Rattle.proto_names.specs.declared.signature.Signature.TheVariants.{Pk, Dec}
 use Rattle.proto_names.specs.declared.instance.Instance.{Instance}
 use Rattle.session_rules.specs.declared.call.Entry.{Entry}
 use Rattle.session_rules.specs.declared.state.CircuitState.TheVariants.{Answered}
@@ -19,7 +19,7 @@ use Rattle.session_rules.proofs.Grounds.{state_grounds}
 use Rattle.session_rules.proofs.Completions.{answered_ones_are_decrypted}
 use Rattle.session_spec.specs.Settings.{Setting, rules}
 use Rattle.session_spec.specs.Shares.{full_sums}
-use Rattle.session_spec.specs.Outputs.{key_in, keys_in, output_of, told_by}
+use Rattle.session_spec.specs.Outputs.{key_in, keys_in, told_by}
 use Rattle.session_laws.specs.Laws.{IsDecryption, Serves}
 use Rattle.session_laws.proofs.Plans.{rules_threshold}
 use Rattle.session_laws.proofs.Keys.{done_found, found_is, key_at, keyed}
@@ -27,7 +27,7 @@ use Rattle.answer_laws.proofs.Answers.{answers_are_plain}
 use Rattle.session_script.specs.Asked.{Asked}
 use Rattle.session_script.specs.Kept.{IsAccepted}
 use Rattle.run_report.specs.Reports.{setting_asked, seeds_asked}
-use Rattle.headline.specs.Asked.{rules_asked, state_of, plain, keys, output, aggregate, decrypted}
+use Rattle.headline.specs.Asked.{rules_asked, state_of, plain, circuit_keys, output, aggregate, decrypted}
 use Rattle.headline.specs.Headline.{IsAnswer}
 use Rattle.headline.specs.History.{are_free}
 use Rattle.headline.proofs.Setting.{params_of, setting_is, has_values, needs_no_switch, seeds_number, whole, plans_number, within_offers, threshold_is}
@@ -42,24 +42,29 @@ serves w seeds s c k g e = elim ((keyed w s g).begun c (rw e refl)) [
       let x = done_found Pk s.instances done in
       let j = x.item in
       let both = found_is Pk s.instances j x.found in
-      inr (record { role = role_of j; signature = both.1.signature; parties = (k.sound j both.0).parties ∙ rules_threshold w; made = key_at w seeds s.instances j x.found })
+      inr (record {
+        role = role_of j;
+        signature = both.1.signature;
+        parties = (k.sound j both.0).parties ∙ rules_threshold w;
+        made = key_at w seeds s.instances j x.found;
+      })
 ]
 
-key_serves : (w : Setting) (seeds : List (List ℕ)) (s : State) (c : ℕ) → Kept (rules w) s → Grounded (rules w) s → circuit s.circuits c ≡ Answered → Serves w seeds c (keys_in w seeds s.instances c).public
+keys_serve : (w : Setting) (seeds : List (List ℕ)) (s : State) (c : ℕ) → Serves w seeds c (key_in w seeds s.instances) → Serves w seeds c (keys_in w seeds s.instances c).public
 unfolding keys_in
-key_serves w seeds s c k g e = serves w seeds s c k g e
+keys_serve w seeds s c h = h
 
 admitted : (a : Asked) (es : List Entry) (c : ℕ) → circuit (state_of a es).circuits c ≡ Answered → is_admitted (plan (rules_asked a) c) ≡ true
 admitted a es c e =
     let free : is_refused (plan (rules_asked a) c).opening ≡ false = sym (others_are_not_refused (rules_asked a) es c) ∙ ap is_refused e in
     rw free refl
 
--- the aggregate of a decryption by its signature
-by_signature : (a : Asked) (s : State) (c : ℕ) (i : Instance) → i.signature ≡ Dec c
+-- the aggregate of a decryption is of what is told of its circuit
+told_of : (a : Asked) (s : State) (c : ℕ) (i : Instance) → i.signature ≡ Dec c
     → aggregate a s i ≡ full_sums (setting_asked a) (seeds_asked a) (role_of i) ((output a s c).c1 ∷ [])
 unfolding aggregate told_by
-by_signature a s c i e =
-    ap (λ (z : Signature). full_sums (setting_asked a) (seeds_asked a) (role_of i) (told_by (setting_asked a) (seeds_asked a) (keys a s) z (role_of i))) e
+told_of a s c i e =
+    ap (λ (z : Signature). full_sums (setting_asked a) (seeds_asked a) (role_of i) (told_by (setting_asked a) (seeds_asked a) (circuit_keys a s) z (role_of i))) e
 
 opened : (a : Asked) (h : IsAccepted a) → are_free a.circuits ≡ true → (es : List Entry) (c : ℕ) → c < length a.circuits → circuit (state_of a es).circuits c ≡ Answered
     → (d : HasDecryption (state_of a es) c) → decrypted a (state_of a es) c d.decryption ≡ plain a c
@@ -73,12 +78,10 @@ opened a h free es c l e d =
     let f = rules_asked a in
     let k = state_kept f es in
     let g = (state_grounds f es (whole a)).1 in
-    let many : count i.set.bits ≡ p.threshold = (k.sound i d.issued).parties ∙ threshold_is a in
-    let its : IsDecryption w c (role_of i) = record { signature = d.signature; parties = many } in
-    let law = answers_are_plain outputs_carry p w seeds c (role_of i) (keys a s c) (setting_is a h) (has_values a h) (needs_no_switch a free) (seeds_number a)
-    (within_offers a c l) (admitted a es c e) its (key_serves w seeds s c k g e) in
-    ap (λ (z : List (List ℕ)). decryption a.numbers.q a.numbers.t (ring_sum a.numbers.q a.numbers.n (output_of w seeds (keys a s c) c).c0 (slice_index_or z 0 [])))
-    (by_signature a s c i d.signature) ∙ law
+    let of : IsDecryption w c (role_of i) = record { signature = d.signature; parties = (k.sound i d.issued).parties ∙ rules_threshold w } in
+    let law = answers_are_plain outputs_carry p w seeds c (role_of i) (circuit_keys a s c) (setting_is a h) (has_values a h) (needs_no_switch a free) (seeds_number a)
+    (within_offers a c l) (admitted a es c e) of (keys_serve w seeds s c (serves w seeds s c k g e)) in
+    ap (λ (z : List (List ℕ)). decryption a.numbers.q a.numbers.t (ring_sum a.numbers.q a.numbers.n (output a s c).c0 (slice_index_or z 0 []))) (told_of a s c i d.signature) ∙ law
 
 pub answers : (a : Asked) → IsAccepted a → are_free a.circuits ≡ true → (es : List Entry) (c : ℕ) → c < length a.circuits → circuit (state_of a es).circuits c ≡ Answered → IsAnswer a (state_of a es) c
 answers a h free es c l e =

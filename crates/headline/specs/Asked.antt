@@ -13,9 +13,9 @@ use Rattle.session_rules.specs.States.{State, threshold_at}
 use Rattle.session_rules.specs.Histories.{state_after}
 use Rattle.session_spec.specs.Settings.{rules, nodes_at, plain_at}
 use Rattle.session_spec.specs.Shares.{full_sums}
-use Rattle.session_spec.specs.Outputs.{keys_in, output_of, polys_of}
+use Rattle.session_spec.specs.Outputs.{output_of, polys_of}
 use Rattle.session_script.specs.Asked.{Asked}
-use Rattle.run_report.specs.Reports.{setting_asked, seeds_asked}
+use Rattle.run_report.specs.Reports.{setting_asked, seeds_asked, keys_asked}
 
 -- what the rules of the script's session look at, and the state after some calls
 abbrev pub rules_asked : Asked → Fixed
@@ -31,26 +31,28 @@ nodes_asked a c = nodes_at (setting_asked a) c
 abbrev pub plain : Asked → ℕ → List ℕ
 plain a c = plain_at (setting_asked a) c
 
--- T for an instance: that of its group
+-- T for the group of an instance
 abbrev pub threshold_of : Asked → State → Instance → ℕ
 threshold_of a s i = threshold_at (rules_asked a) i.group
 
--- the keys of circuit c in a state, each made of the aggregate of its complete instance: of the public key p0 is that
--- aggregate and p1 the instance's common polynomial
-abbrev pub keys : Asked → State → ℕ → Keys
-keys a s c = keys_in (setting_asked a) (seeds_asked a) s.instances c
+-- the keys of circuit c in a state, those that it needs: the public key, of which p0 is the aggregate of its complete
+-- instance and p1 the common polynomial of that; the rows of the relinearisation key, of the aggregates of both rounds;
+-- and those of each rotation key, of its aggregate beside the common polynomials
+abbrev pub circuit_keys : Asked → State → ℕ → Keys
+circuit_keys a s c = keys_asked a s c
 
 -- the output of circuit c under these keys
 abbrev pub output : Asked → State → ℕ → Cipher
-output a s c = output_of (setting_asked a) (seeds_asked a) (keys a s c) c
+output a s c = output_of (setting_asked a) (seeds_asked a) (circuit_keys a s c) c
 
 -- the aggregate of an instance: row by row the sum modulo q of one honest share of each party j of its set P, of
--- s_j = lambda_j(P) * share_j, of the instance's common polynomials (a key), c1 of the circuit's output (a
--- decryption) or the aggregate and j's u of its own first round (a second round), and of noise from j's own stream with
--- the instance's number
+-- s_j = lambda_j(P) * share_j, of the instance's common polynomials (public key, rotation, first round), the first
+-- round's aggregate (second round) or c1 of the circuit's output (decryption), of j's u of the first round (both rounds),
+-- and of noise from j's own stream with the instance's number
 unfoldable pub aggregate : Asked → State → Instance → List (List ℕ)
 aggregate a s i =
-    full_sums (setting_asked a) (seeds_asked a) (role_of i) (polys_of (setting_asked a) (seeds_asked a) (keys a s) (role_of i))
+    let w = setting_asked a in
+    let seeds = seeds_asked a in full_sums w seeds (role_of i) (polys_of w seeds (circuit_keys a s) (role_of i))
 
 -- what is decrypted from the output of circuit c with the aggregate of a decryption: c0 and the aggregate's row
 -- are added, and each coefficient is scaled by t / q, rounded and reduced modulo t

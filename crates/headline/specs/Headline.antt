@@ -14,7 +14,7 @@ use Rattle.session_rules.specs.declared.call.Entry.{Entry}
 use Rattle.session_rules.specs.declared.reply.Reply.TheVariants.{Completed}
 use Rattle.session_rules.specs.declared.fixed.Fixed.{Fixed}
 use Rattle.session_rules.specs.declared.state.CircuitState.TheVariants.{Evaluated, Answered}
-use Rattle.session_rules.specs.States.{State, plan, circuit, is_admitted, is_given, has_done}
+use Rattle.session_rules.specs.States.{State, threshold_at, group_now, plan, circuit, is_admitted, is_given, has_done}
 use Rattle.session_rules.specs.Steps.{is_input, has_keys, ready}
 use Rattle.session_rules.specs.Histories.{IsLegal}
 use Rattle.session_rules.specs.Facts.{Numbered}
@@ -95,7 +95,7 @@ pub data Waits (f : Fixed) (s : State) (c : ℕ) : Type 0 where
 
 -- at least T parties are present, and among them is the owner of each input of an admitted circuit that isn't given
 pub record CanAnswer (f : Fixed) (s : State) : Type 0 where
-  pub enough : f.threshold ≤ count s.present
+  pub enough : threshold_at f (group_now s) ≤ count s.present
   pub owners : (c k : ℕ) → is_input f c k ≡ true → is_given s c k ≡ false → has s.present (slice_index_or (plan f c).owners k 0) ≡ true
 
 -- no instance waits for a share, no circuit waits to be evaluated, and where they can be, all admitted circuits

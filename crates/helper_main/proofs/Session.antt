@@ -10,7 +10,7 @@ use Rattle.party_roll.specs.Seeds.{seeds_told, seeds_of}
 use Rattle.session_rules.specs.declared.call.Entry.{Entry}
 use Rattle.session_script.specs.Asked.{Asked, Named, Numbers, numbers_of}
 use Rattle.session_script.specs.Kept.{IsNamed, AreNamed, IsAccepted}
-use Rattle.session_spec.specs.Settings.{Setting, Offer, Keeps, IsSwitchFree, NeedsNoSwitch, rules}
+use Rattle.session_spec.specs.Settings.{Setting, Offer, Keeps, IsSwitchFree, rules}
 use Rattle.session_state.specs.Parts.{setting_by}
 use Rattle.session_core.specs.Sessions.{IsModest, HasTold}
 use Rattle.run_report.specs.Reports.{offered, setting_asked, seeds_asked, report}
@@ -25,7 +25,9 @@ use Rattle.helper_main.specs.Runs.{serial_report}
 -- ---- the circuits
 
 named_keeps : (s : Params) (a : Asked) (one : Named) → a.numbers ≡ numbers_of s → IsNamed a.numbers one → Keeps s (offered one)
-named_keeps s a one numbers named = record { rules = (subst (λ (z : Numbers). IsNamed z one) numbers named).rules }
+named_keeps s a one numbers named = record {
+  rules = (subst (λ (z : Numbers). IsNamed z one) numbers named).rules;
+}
 
 all_keep : (s : Params) (a : Asked) → a.numbers ≡ numbers_of s → AreNamed a → All (λ (z : Named). Keeps s (offered z)) a.circuits
 all_keep s a numbers named = λ k d inside. named_keeps s a (get_or a.circuits k d) numbers (named k d inside)
@@ -35,11 +37,10 @@ keeps a p s circuits numbers same named is =
     subst (λ (z : Params). All (Keeps z) circuits) (sym same)
     (All-same (Keeps s) circuits (map offered a.circuits) is (All-map (Keeps s) offered a.circuits (all_keep s a numbers named)))
 
--- none needs a key switch
-pub free_ones : (a : Asked) (p : Params) (public : List ℕ) (circuits : List Offer) → are_free a.circuits ≡ true → circuits ≡ map offered a.circuits → NeedsNoSwitch (setting_by p public circuits)
-free_ones a p public circuits free is =
-    All-same IsSwitchFree circuits (map offered a.circuits) is
-    (All-map IsSwitchFree offered a.circuits (λ k d inside. AllPass-from_list_all is_free a.circuits free k d inside))
+-- they rotate by nothing and multiply no two encrypted values
+pub free : (a : Asked) (circuits : List Offer) → are_free a.circuits ≡ true → circuits ≡ map offered a.circuits → All IsSwitchFree circuits
+free a circuits h is =
+    All-same IsSwitchFree circuits (map offered a.circuits) is (All-map IsSwitchFree offered a.circuits (λ k d inside. AllPass-from_list_all is_free a.circuits h k d inside))
 
 named_told : (s : Params) (named : Named) → IsNamed (numbers_of s) named → HasTold s (offered named)
 named_told s named h = record { told = refl; number = h.count; plain = h.values }

@@ -26,7 +26,7 @@ use Rattle.session_spec.specs.Settings.{Setting, rules}
 use Rattle.session_spec.specs.Outputs.{done_instance, key_instance, key_in}
 use Rattle.session_spec.specs.Stores.{Store, held_key, key_by}
 use Rattle.session_rules.proofs.Issued.{done_here}
-use Rattle.session_laws.proofs.Keys.{key_found, key_stays}
+use Rattle.session_laws.proofs.Keys.{found_is, key_stays}
 use Rattle.lane_workers.specs.Acting.{Owns, OwnsPlace}
 
 -- ---- its own
@@ -85,7 +85,7 @@ no_inputs w h f s p e = no_inputs_yet f s p (key_done s.instances w h (key_insta
 
 some_key : (is : List Instance) (w : Setting) (h : Store) (key : Key) (o : Option Instance) → key_instance is ≡ o → option_map (key_by w h) o ≡ Some key → has_done Pk is ≡ true
 some_key is w h key None e k = cc
-some_key is w h key (Some i) e k = let both = key_found is i e in done_here Pk is i both.0 both.1
+some_key is w h key (Some i) e k = let both = found_is Pk is i e in done_here Pk is i both.0 both.1
 
 pub held_done : (w : Setting) (h : Store) (is : List Instance) (key : Key) → held_key w h is ≡ Some key → has_done Pk is ≡ true
 unfolding held_key

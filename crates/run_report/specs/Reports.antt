@@ -3,6 +3,7 @@ use Rattle.std.specs.Prelude.{ℕ, cond, List, [], ◌++◌, map, length, slice_
 use Rattle.std.specs.List.{range_with_len, flat_map}
 use Rattle.draw_spec.specs.Streams.{party_seed}
 use Rattle.param_set.specs.Numbers.{Numbers as Bounding}
+use Rattle.cipher_spec.specs.Keys.{Keys}
 use Rattle.noise_ledger.specs.declared.over.Place.{Place}
 use Rattle.noise_ledger.specs.declared.over.Place.TheVariants.{Node as AtNode, Output}
 use Rattle.proto_names.specs.declared.instance.Instance.{Instance}
@@ -47,6 +48,10 @@ setting_asked a = record { numbers = bounding a; public = party_seed a.master 0;
 abbrev pub seeds_asked : Asked → List (List ℕ)
 seeds_asked a = seeds_of a.master a.numbers.parties
 
+-- the keys of circuit c in a state
+abbrev pub keys_asked : Asked → State → ℕ → Keys
+keys_asked a s c = keys_in (setting_asked a) (seeds_asked a) s.instances c
+
 -- ---- a circuit
 
 -- the place that is too noisy: `node K` or `output`
@@ -81,13 +86,13 @@ circuit_text a s c = state_line (name_at a c) (plain_at (setting_asked a) c) (ci
 unfoldable pub output_text : Asked → State → ℕ → List ℕ
 output_text a s c =
     cond (is_settled (circuit s.circuits c))
-    (output_line (name_at a c) (output_of (setting_asked a) (seeds_asked a) (keys_in (setting_asked a) (seeds_asked a) s.instances c) c)) []
+    (output_line (name_at a c) (output_of (setting_asked a) (seeds_asked a) (keys_asked a s c) c)) []
 
 -- ---- an instance, with the digest of the sums of honest shares
 
 unfoldable pub instance_text : Asked → State → Instance → List ℕ
 instance_text a s i =
-    instance_line i (polys_digest (sums_of (setting_asked a) (seeds_asked a) (keys_in (setting_asked a) (seeds_asked a) s.instances) i))
+    instance_line i (polys_digest (sums_of (setting_asked a) (seeds_asked a) (keys_asked a s) i))
 
 -- ---- the report: circuits, outputs, instances, events
 

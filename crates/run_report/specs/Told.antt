@@ -2,6 +2,7 @@
 use Rattle.std.specs.Prelude.{ℕ, List, [], cond}
 use Rattle.draw_spec.specs.Streams.{party_seed}
 use Rattle.party_roll.specs.Seeds.{seeds_told}
+use Rattle.cipher_spec.specs.Keys.{Keys}
 use Rattle.proto_names.specs.declared.instance.Instance.{Instance}
 use Rattle.session_rules.specs.States.{circuit}
 use Rattle.session_rules.specs.Facts.{is_settled}
@@ -18,6 +19,10 @@ use Rattle.run_report.specs.Reports.{state_line}
 abbrev pub seeds_of : Standing → List ℕ → List (List ℕ)
 seeds_of st master = seeds_told (party_seed master) st.params.parties
 
+-- the keys of circuit c
+abbrev pub keys_told : Standing → List ℕ → ℕ → Keys
+keys_told st master c = keys_in (setting st) (seeds_of st master) (state st).instances c
+
 -- the line of a circuit with this name
 unfoldable pub told_circuit : List ℕ → Standing → ℕ → List ℕ
 told_circuit name st c = state_line name (plain_at (setting st) c) (circuit (state st).circuits c)
@@ -26,12 +31,12 @@ told_circuit name st c = state_line name (plain_at (setting st) c) (circuit (sta
 unfoldable pub told_output : List ℕ → Standing → List ℕ → ℕ → List ℕ
 told_output name st master c =
     cond (is_settled (circuit (state st).circuits c))
-    (output_line name (output_of (setting st) (seeds_of st master) (keys_in (setting st) (seeds_of st master) (state st).instances c) c)) []
+    (output_line name (output_of (setting st) (seeds_of st master) (keys_told st master c) c)) []
 
 -- the digest of the sums of an instance, and its line
 unfoldable pub told_digest : Standing → List ℕ → Instance → List ℕ
 told_digest st master i =
-    polys_digest (sums_of (setting st) (seeds_of st master) (keys_in (setting st) (seeds_of st master) (state st).instances) i)
+    polys_digest (sums_of (setting st) (seeds_of st master) (keys_told st master) i)
 
 unfoldable pub told_instance : Standing → List ℕ → Instance → List ℕ
 told_instance st master i = instance_line i (told_digest st master i)

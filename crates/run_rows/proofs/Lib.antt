@@ -4,3 +4,4 @@ pub mod Reports
 pub mod Runs
 pub mod Works
 pub mod Parties
+pub mod Serving

@@ -1,7 +1,7 @@
 -- The circuits of the script keep what a session asks of circuits, and are its setting.
 use Rattle.std.proofs.Common.{◌∙◌, ap, refl}
 use Rattle.session_script.specs.Scripts.{asked}
-use Rattle.helper_main.proofs.Session.{if_ok, keeps, free_ones, few, told, setting_is, modest}
+use Rattle.helper_main.proofs.Session.{if_ok, keeps, free, few, told, setting_is, modest}
 use Rattle.helper_main.proofs.report.opened.Goals as goal
 
 pub new-requires-clause-keep : goal.new-requires-clause-keep
@@ -10,8 +10,7 @@ new-requires-clause-keep c κs =
     keeps a c.in_ok-try_clone.field-0.value.params c.args.script.now.params c.in_ok-circuits.circuits refl (ap (λ z. z.params) c.in_ok-try_clone.ensures ∙ c.requires.ring) c.requires.accepted.named c.in_ok-circuits.ensures
 
 pub new-requires-clause-free : goal.new-requires-clause-free
-new-requires-clause-free c κs =
-    free_ones (asked c.args.script.now) c.in_ok-try_clone.field-0.value.params _ c.in_ok-circuits.circuits c.requires.free c.in_ok-circuits.ensures
+new-requires-clause-free c κs = free (asked c.args.script.now) c.in_ok-circuits.circuits c.requires.free c.in_ok-circuits.ensures
 
 pub new-requires-clause-few : goal.new-requires-clause-few
 new-requires-clause-few c κs = few (asked c.args.script.now) c.in_ok-circuits.circuits c.in_ok-circuits.ensures c.requires.accepted.few

@@ -33,13 +33,13 @@ finish-requires-clause-ct g c κs within =
     let e : o ≡ Some j = let x = c.in_ok-job.job-is in let y = c.in-Some.is in cc in
     let ct = c.in_ok-ct-in-Some.ct in
     let its = at_some (λ (z : Job). IsJobFor k.setting (store_of old) z.number z) o j e b.job.circuit in
-    let free = (at_some (λ (z : Job). CanEvaluate k.params z) o j e b.job.ready).switch_free in
+    let able : CanEvaluate k.params j = at_some (λ (z : Job). CanEvaluate k.params z) o j e b.job.ready in
     let stays = ap (λ (z : State). z.instances) b.called.made.state ∙ take_issues (rules_for old) (state_behind old) ∙ ap (λ (z : State). z.instances) (sym old.state_is) in
     subst (λ (z : Known). BringsOutputTo z (state_of mid) 0 j.number ct) (sym (known_is old mid b.called.about)) (record {
       fits = subst (λ (z : Params). CipherFits z.q z.n ct) c.requires.ring c.in_ok-ct-in-Some.ensures.fits;
       honest = λ t done.
           let inputs = at_some (λ (z : Job). z.inputs ≡ inputs_of k.setting k.seeds (key_in k.setting k.seeds (state_of old).instances) z.number) o j e (b.job.honest t) in
-          output_brought k.setting k.seeds (state_of mid).instances j.number ct j.inputs j.circuit.value c.args.ring.now.params (ap numbers_of (sym c.requires.ring)) free
+          output_brought k.setting k.seeds (state_of mid).instances j.number ct j.inputs j.circuit.value c.args.ring.now.params (ap numbers_of (sym c.requires.ring)) able.switch_free
           (inputs ∙ ap (λ z. inputs_of k.setting k.seeds (key_in k.setting k.seeds z) j.number) (sym stays)) its.circuit c.in_ok-ct-in-Some.ensures.value;
     })
 
