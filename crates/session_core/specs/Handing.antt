@@ -39,7 +39,8 @@ pub record HandsBrief (id : ℕ) (k : Known) (s : State) (h : Store) (handed : B
   pub goes : IfSome handed.brief (λ a. handed.reply ≡ brief_reply a.value)
   pub made : IfSome handed.brief (λ a. IsBrief k.params a.value)
   pub honest : k.tells ≡ true
-      → IfSome handed.brief (λ a. a.value.polys ≡ polys_of k.setting k.seeds (keys_in k.setting k.seeds s.instances) (role_told a))
+      → IfSome handed.brief (λ a. a.value.polys
+      ≡ polys_of k.setting k.seeds (keys_in k.setting k.seeds s.instances) (role_told a))
 
 -- the job for the circuit that the reply names, and none with Nothing: it can be evaluated, and its inputs are
 -- the encryptions of their values where the seeds are told
@@ -65,10 +66,12 @@ IsAnsweredAt s c = (c < length s.circuits) × (circuit s.circuits c ≡ Answered
 -- plain value
 abbrev pub AreHonestSums : ℕ → Known → State → Store → List (List ℕ) → Type 0
 AreHonestSums id k s h sums =
-    k.tells ≡ true → (i : Instance) → instance s.instances id ≡ Some i → sums ≡ sums_of k.setting k.seeds (keys_in k.setting k.seeds s.instances) i
+    k.tells ≡ true → (i : Instance) → instance s.instances id ≡ Some i
+    → sums ≡ sums_of k.setting k.seeds (keys_in k.setting k.seeds s.instances) i
 
 abbrev pub IsHonestOutput : ℕ → Known → State → Store → Cipher → Type 0
-IsHonestOutput c k s h output = k.tells ≡ true → output ≡ output_of k.setting k.seeds (keys_in k.setting k.seeds s.instances c) c
+IsHonestOutput c k s h output =
+    k.tells ≡ true → output ≡ output_of k.setting k.seeds (keys_in k.setting k.seeds s.instances c) c
 
 abbrev pub IsPlainAnswer : ℕ → Known → State → Store → List ℕ → Type 0
 IsPlainAnswer c k s h answer = k.tells ≡ true → answer ≡ plain_at k.setting c

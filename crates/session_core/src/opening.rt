@@ -14,9 +14,9 @@ use std::sync::Arc;
 
 impl<R: Roll> Session<R> {
     /// A session for these circuits, none of which needs a key switch, in which nobody is present and no call was
-    /// made. The values of their inputs are there where the roll tells the parties' seeds; there are at most 64 circuits, with at most 16 different
-    /// rotations and 1,024 inputs in all; and no call past `max_calls`, which is at most 8,388,608, is answered. It
-    /// takes room for no entry.
+    /// made. The values of their inputs are there where the roll tells the parties' seeds; there are at most 64
+    /// circuits, with at most 16 different rotations and 1,024 inputs in all; and no call past `max_calls`, which is
+    /// at most 8,388,608, is answered. It takes room for no entry.
     pub fn new(
         alloc: Global,
         roll: R,
