@@ -1,14 +1,14 @@
 ghost use Rattle.std.specs.Prelude.{◌≡◌, ◌≤◌, ◌-◌, ◌↔◌, ℕ, length, All, Some, IfOk, IfSome, IsSome, IsTrue, option_copied, option_map};
 ghost use Rattle.ring_spec.specs.Ring.{IsPoly};
 ghost use Rattle.proto_names.specs.Names.{is_void};
-ghost use Rattle.proto_names.specs.Instances.{instance, owed_shares, after_share};
+ghost use Rattle.proto_names.specs.Instances.{instance, owed_shares, after_share, after_lost};
 ghost use Rattle.proto_names.specs.Roles.{role_of};
 ghost use Rattle.instance_table.specs.Tables.{role_told, row_count, row_counts, stands, told};
 
 use crate::{Brief, Table};
 use mod_ring::Polys;
 use param_set::Ids;
-use proto_names::{Instance, Stage, counted_at, lacks};
+use proto_names::{Instance, Stage, after_loss, counted_at, lacks};
 use std::alloc::{AllocError, Global};
 use std::sync::Arc;
 
@@ -77,6 +77,17 @@ impl Table {
         self.instances
             .iter()
             .map(|instance| counted_at(id, p, instance))
+            .collect(alloc)
+    }
+
+    /// A copy of all instances, as they are once party p is lost: those that lack its share are given up.
+    #[tactic(auto, unfolding(proto_names::specs::Instances::after_lost))]
+    pub fn instances_without(&self, alloc: Global, p: u32) -> Result<Vec<Instance>, AllocError>
+        ensures { IfOk result (λ copies. copies.items ≡ after_lost p self.now.instances.items) }
+    {
+        self.instances
+            .iter()
+            .map(|instance| after_loss(p, instance))
             .collect(alloc)
     }
 

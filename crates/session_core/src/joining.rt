@@ -27,4 +27,22 @@ impl<R: Roll> Session<R> {
         });
         Ok(reply)
     }
+
+    /// Party p is absent from now on: Left, or Already where it was. Only Left takes memory. Each opened instance that
+    /// lacks its share is given up.
+    pub fn lose(&mut self, alloc: Global, caller: u32, p: u32) -> Result<Reply, Stop>
+        requires party { IsParty self.old.standing.params.parties p }
+        ensures called { Called self.old self.new result (λ r. r) caller (call.Lose p)
+            nothing_brought }
+        ensures free { OnlyFor reply.Left self.old result caller (call.Lose p) }
+    {
+        self.begin()?;
+        let reply = self.standing.lose(alloc, p)?;
+        self.log.push_reserved(Entry {
+            caller,
+            call: Call::Lose { p },
+            reply: plain_copy(&reply),
+        });
+        Ok(reply)
+    }
 }

@@ -55,4 +55,21 @@ impl<R: Roll> Session<R> {
         });
         Ok(reply)
     }
+
+    /// Takes a circuit back that is the caller's, so that it may be taken again: Returned, and NotTaken where it isn't.
+    /// With room in the log it takes no memory.
+    pub fn give_back(&mut self, caller: u32, circuit: u32) -> Result<Reply, Stop>
+        ensures called { Called self.old self.new result (λ r. r) caller (call.GiveBack circuit)
+            nothing_brought }
+        ensures free { OnlyWhere (λ r. ⊥) self.old result caller (call.GiveBack circuit) }
+    {
+        self.begin()?;
+        let reply = self.standing.give_back(caller, circuit);
+        self.log.push_reserved(Entry {
+            caller,
+            call: Call::GiveBack { circuit },
+            reply: plain_copy(&reply),
+        });
+        Ok(reply)
+    }
 }

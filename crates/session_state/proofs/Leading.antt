@@ -17,7 +17,7 @@ use Rattle.session_rules.specs.declared.fixed.Fixed.{Fixed}
 use Rattle.session_rules.specs.States.{State, circuit}
 use Rattle.session_rules.specs.Issues.{issue}
 use Rattle.session_rules.specs.Deeds.{is_nothing, counts_for, changed, leads_on, done}
-use Rattle.session_rules.specs.Steps.{is_input, counted, join, deliver, input, take, finish, judge}
+use Rattle.session_rules.specs.Steps.{is_input, counted, join, lose, deliver, input, take, finish, give_back, judge}
 use Rattle.session_rules.specs.Facts.{Kept}
 use Rattle.session_rules.specs.Allowed.{Answers, Allows}
 use Rattle.session_rules.proofs.Judged.{judged}
@@ -139,6 +139,33 @@ input_does f s c k r (Turns d (Taken who)) a e = let same = a.call in cc
 input_does f s c k r (Turns d Evaluated) a e = let same = a.call in cc
 input_does f s c k r (Turns d Answered) a e = absurd a
 
+pub lose_does : (f : Fixed) (s : State) (p : ℕ) (r : Reply) (d : Deed) → Allows f s 0 (call.Lose p) r d → is_nothing d ≡ false → IsDone d (Loses p) r reply.Left
+lose_does f s p r Nothing a e = cc
+lose_does f s p r (Joins q) a e = let same = a.call in cc
+lose_does f s p r (Loses q) a e = let same : call.Lose p ≡ call.Lose q = a.call in let it : p ≡ q = cc in record { deed = ap Loses (sym it); reply = a.reply }
+lose_does f s p r (Counts i q) a e = let same = a.call in cc
+lose_does f s p r (Gives d k) a e = let same = a.call in cc
+lose_does f s p r (Turns d (Refused place bound limit)) a e = absurd a
+lose_does f s p r (Turns d Idle) a e = let same = a.call in cc
+lose_does f s p r (Turns d (Taken who)) a e = let same = a.call in cc
+lose_does f s p r (Turns d Evaluated) a e = let same = a.call in cc
+lose_does f s p r (Turns d Answered) a e = absurd a
+
+pub return_does : (f : Fixed) (s : State) (who c : ℕ) (r : Reply) (d : Deed) → Allows f s who (call.GiveBack c) r d → is_nothing d ≡ false → IsDone d (Turns c Idle) r reply.Returned × (circuit s.circuits c ≡ Taken who)
+return_does f s who c r Nothing a e = cc
+return_does f s who c r (Joins q) a e = let same = a.call in cc
+return_does f s who c r (Loses q) a e = let same = a.call in cc
+return_does f s who c r (Counts i q) a e = let same = a.call in cc
+return_does f s who c r (Gives d k) a e = let same = a.call in cc
+return_does f s who c r (Turns d (Refused place bound limit)) a e = absurd a
+return_does f s who c r (Turns d Idle) a e =
+    let same : call.GiveBack c ≡ call.GiveBack d = a.call in
+    let it : d ≡ c = cc in
+    (record { deed = ap (λ (z : ℕ). Turns z Idle) it; reply = a.reply }, subst (λ (z : ℕ). circuit s.circuits z ≡ Taken who) it a.taken)
+return_does f s who c r (Turns d (Taken its)) a e = let same = a.call in cc
+return_does f s who c r (Turns d Evaluated) a e = let same = a.call in cc
+return_does f s who c r (Turns d Answered) a e = absurd a
+
 -- a share is counted for an instance, or nothing is done
 pub share_does : (f : Fixed) (s : State) (id p rows : ℕ) (r : Reply) (d : Deed) (i : Instance) → Kept f s → Allows f s 0 (call.Deliver id p rows) r d → counts_for d ≡ Some i
     → IsDone d (Counts i p) r (counted p i) × IsWanted f s id p rows i
@@ -183,6 +210,14 @@ share_refused f s id p rows r (Turns d Answered) a e = absurd a
 pub fair_join : (f : Fixed) (s : State) (p : ℕ) → Allows f s 0 (call.Join p) (join s p).reply (join s p).deed
 unfolding judge
 fair_join f s p = judged f s 0 (call.Join p)
+
+pub fair_lose : (f : Fixed) (s : State) (p : ℕ) → Allows f s 0 (call.Lose p) (lose s p).reply (lose s p).deed
+unfolding judge
+fair_lose f s p = judged f s 0 (call.Lose p)
+
+pub fair_return : (f : Fixed) (s : State) (who c : ℕ) → Allows f s who (call.GiveBack c) (give_back s who c).reply (give_back s who c).deed
+unfolding judge
+fair_return f s who c = judged f s who (call.GiveBack c)
 
 pub fair_deliver : (f : Fixed) (s : State) (id p rows : ℕ) → Allows f s 0 (call.Deliver id p rows) (deliver f s id p rows).reply (deliver f s id p rows).deed
 unfolding judge

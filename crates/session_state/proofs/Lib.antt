@@ -15,3 +15,5 @@ pub mod Openings
 pub mod Leading
 pub mod Onward
 pub mod Ended
+pub mod Losses
+pub mod Returns

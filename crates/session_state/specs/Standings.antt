@@ -5,7 +5,7 @@ use Rattle.session_rules.specs.declared.fixed.Fixed.{Fixed}
 use Rattle.session_rules.specs.States.{State, seen}
 use Rattle.session_rules.specs.Issues.{most_moves}
 use Rattle.session_rules.specs.Deeds.{done}
-use Rattle.session_rules.specs.Steps.{join, deliver, input, take, finish}
+use Rattle.session_rules.specs.Steps.{join, lose, deliver, input, take, finish, give_back}
 use Rattle.session_spec.specs.Settings.{Setting, rules}
 use Rattle.session_spec.specs.Stores.{Store, Brought, store_done}
 use Rattle.session_state.specs.Parts.{setting_by, store_by}
@@ -39,6 +39,9 @@ pub record IsUnchanged (old new : Standing) : Type 0 where
 abbrev pub joined : Standing → ℕ → Verdict
 joined st p = join (state st) p
 
+abbrev pub lost : Standing → ℕ → Verdict
+lost st p = lose (state st) p
+
 abbrev pub delivered : Standing → ℕ → ℕ → ℕ → Verdict
 delivered st id p rows = deliver (rules_of st) (state st) id p rows
 
@@ -50,6 +53,9 @@ taken st who = take (rules_of st) (state st) who
 
 abbrev pub finished : Standing → ℕ → ℕ → Verdict
 finished st who c = finish (state st) who c
+
+abbrev pub returned : Standing → ℕ → ℕ → Verdict
+returned st who c = give_back (state st) who c
 
 -- the state and the store once it is done, with what the call brought
 abbrev pub state_then : Standing → Verdict → State
