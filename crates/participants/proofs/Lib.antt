@@ -1,0 +1,5 @@
+pub mod Parties
+pub mod Firsts
+pub mod Choosing
+pub mod Raising
+mod Instances
