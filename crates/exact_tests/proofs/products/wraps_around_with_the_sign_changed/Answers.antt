@@ -1,0 +1,7 @@
+-- 8 is a power of two.
+use Rattle.std.proofs.Common.{rules}
+use Rattle.exact_tests.proofs.products.wraps_around_with_the_sign_changed.Goals as goal
+
+pub int_mul-requires-clause-degree : goal.int_mul-requires-clause-degree
+unfolding lib.Count.ones
+int_mul-requires-clause-degree g c = rw c.as_slice.ensures (search rules)

@@ -1,0 +1,4 @@
+mod Residues
+mod Garner
+mod Quotients
+mod Exact
