@@ -1,0 +1,5 @@
+pub mod Places
+pub mod Cuts
+pub mod Written
+pub mod Kept
+pub mod Totals

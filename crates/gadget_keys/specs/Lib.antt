@@ -1,0 +1,3 @@
+pub mod Gadgets
+pub mod Keys
+pub mod Sums
