@@ -54,7 +54,12 @@ pub answer_premises : (a b c : List ℕ) → IsSetting p framed × HasValues p f
     × (is_admitted (plan (rules framed) 0) ≡ true) × IsDecryption framed 0 (role (Dec 0) 2 3 0) × Serves framed (a ∷ b ∷ c ∷ []) 0 (key_of framed (a ∷ b ∷ c ∷ []) (role Pk 1 3 0))
 unfolding rules fixed_from plan_of begins_as owners first_over first_above place_bound output_bound node_bounds bounds_from node_bound input_bound sum_bound binary_digits digits_up_to members members_to has
 answer_premises a b c = (
-  setting, has_values, needs_no_switch, refl, omega arith, refl,
+  setting,
+  has_values,
+  needs_no_switch,
+  refl,
+  omega arith,
+  refl,
   record { signature = refl; parties = refl },
   inr (record { role = role Pk 1 3 0; signature = refl; parties = refl; key = refl }),
 )

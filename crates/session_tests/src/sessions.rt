@@ -16,15 +16,22 @@ use std::test::Fail;
 #[derive(Clone, Copy, Debug, PartialEq, Eq)]
 enum Told {
     Joined,
+    Left,
+    Already,
+    Absent,
     NoInput,
     NoKey,
     Unknown(u32),
     Stranger,
+    Late(u32),
     Repeat,
     Shape(u32, u32),
     Counted(u32),
     Completed,
+    Given,
     Nothing,
+    Job(u32),
+    Returned,
     NotTaken,
     Other,
     Spent,
@@ -34,15 +41,22 @@ enum Told {
 fn outcome(said: &Result<Reply, Stop>) -> Told {
     match said {
         Ok(Reply::Joined) => Told::Joined,
+        Ok(Reply::Left) => Told::Left,
+        Ok(Reply::Already) => Told::Already,
+        Ok(Reply::Absent) => Told::Absent,
         Ok(Reply::NoInput) => Told::NoInput,
         Ok(Reply::NoKey) => Told::NoKey,
         Ok(Reply::Unknown { issued }) => Told::Unknown(*issued),
         Ok(Reply::Stranger) => Told::Stranger,
+        Ok(Reply::Late { by }) => Told::Late(*by),
         Ok(Reply::Repeat) => Told::Repeat,
         Ok(Reply::Shape { want, got }) => Told::Shape(*want, *got),
         Ok(Reply::Counted { missing }) => Told::Counted(*missing),
         Ok(Reply::Completed) => Told::Completed,
+        Ok(Reply::Given) => Told::Given,
         Ok(Reply::Nothing) => Told::Nothing,
+        Ok(Reply::Job { circuit }) => Told::Job(*circuit),
+        Ok(Reply::Returned) => Told::Returned,
         Ok(Reply::NotTaken) => Told::NotTaken,
         Ok(_) => Told::Other,
         Err(Stop::Spent) => Told::Spent,
@@ -97,6 +111,17 @@ fn join(alloc: Global, session: &mut Session<NoRoll>, p: u32) -> Result<Reply, S
         return Ok(Reply::Absent);
     }
     session.join(alloc, 0, p)
+}
+
+/// Takes note that a party is lost, where it is one.
+fn lose(alloc: Global, session: &mut Session<NoRoll>, p: u32) -> Result<Reply, Stop>
+    requires { session.old.standing.params.parties ≡ 3 }
+    ensures { session.new.standing.params ≡ session.old.standing.params }
+{
+    if p == 0 || p > 3 {
+        return Ok(Reply::Joined);
+    }
+    session.lose(alloc, 0, p)
 }
 
 /// Delivers a share of one row, or of two: each a constant.
@@ -158,7 +183,8 @@ fn make(
         Call::Finish { circuit } => finish(alloc, session, circuit),
         Call::Brief { id } => Ok(session.brief(0, id)?.reply),
         Call::Pending { p } => Ok(session.pending(alloc, 0, p)?.reply),
-        Call::Lose { .. } | Call::GiveBack { .. } => Ok(Reply::Absent),
+        Call::Lose { p } => lose(alloc, session, p),
+        Call::GiveBack { circuit } => session.give_back(0, circuit),
     }
 }
 
@@ -218,6 +244,70 @@ fn refuses_what_is_not_wanted(rt: HostRuntime) -> Result<(), Fail> {
     ];
     come_to(&rt, alloc, &mut session, calls.as_slice());
     assert_eq!(rt; session.log().len(), 12);
+    Ok(())
+}
+
+/// The share of party p of one row for an instance.
+const fn share_for(id: u32, p: u32) -> Call {
+    Call::Deliver { id, p, rows: 1 }
+}
+
+#[test]
+fn goes_on_without_who_is_lost(rt: HostRuntime) -> Result<(), Fail> {
+    let alloc = rt.alloc();
+    let Some(mut session) = open(alloc, 40)? else {
+        panic!(rt; "no session")
+    };
+    let calls = [
+        (Call::Join { p: 1 }, 0, Told::Joined),
+        (Call::Join { p: 2 }, 0, Told::Joined),
+        (Call::Join { p: 3 }, 0, Told::Joined),
+        (Call::Lose { p: 2 }, 0, Told::Left),
+        (Call::Lose { p: 2 }, 0, Told::Already),
+        (Call::Pending { p: 2 }, 0, Told::Absent),
+        (share_for(1, 2), 1, Told::Late(2)),
+        (share_for(2, 2), 1, Told::Stranger),
+        (share_for(2, 1), 5, Told::Counted(1)),
+        (Call::Lose { p: 1 }, 0, Told::Left),
+        (Call::Join { p: 1 }, 0, Told::Joined),
+        (share_for(2, 3), 7, Told::Completed),
+    ];
+    come_to(&rt, alloc, &mut session, calls.as_slice());
+    assert!(rt; is_twelve(session.sums(2)));
+    assert!(rt; session.sums(1).is_none());
+    Ok(())
+}
+
+#[test]
+fn takes_back_what_is_given_back(rt: HostRuntime) -> Result<(), Fail> {
+    let alloc = rt.alloc();
+    let Some(mut session) = open(alloc, 40)? else {
+        panic!(rt; "no session")
+    };
+    let first = Call::Input {
+        circuit: 0,
+        input: 0,
+    };
+    let second = Call::Input {
+        circuit: 0,
+        input: 1,
+    };
+    let back = Call::GiveBack { circuit: 0 };
+    let calls = [
+        (Call::Join { p: 1 }, 0, Told::Joined),
+        (Call::Join { p: 2 }, 0, Told::Joined),
+        (share_for(1, 1), 1, Told::Counted(1)),
+        (share_for(1, 2), 1, Told::Completed),
+        (first, 0, Told::Given),
+        (second, 0, Told::Given),
+        (back, 0, Told::NotTaken),
+        (Call::Take, 0, Told::Job(0)),
+        (Call::Take, 0, Told::Nothing),
+        (back, 0, Told::Returned),
+        (back, 0, Told::NotTaken),
+        (Call::Take, 0, Told::Job(0)),
+    ];
+    come_to(&rt, alloc, &mut session, calls.as_slice());
     Ok(())
 }
 
