@@ -18,14 +18,17 @@ use Rattle.instance_table.specs.declared.share.Count.TheVariants.{Counted, Compl
 
 -- ---- an instance's role, as its brief tells it
 
-abbrev pub role_told : Arc Brief Global → Role
-role_told brief = record {
-  signature = brief.value.signature;
-  id = brief.value.id;
-  set = brief.value.set;
-  round1 = brief.value.round1;
-  group = last_place brief.value.groups.value;
+abbrev pub brief_role : Brief → Role
+brief_role brief = record {
+  signature = brief.signature;
+  id = brief.id;
+  set = brief.set;
+  round1 = brief.round1;
+  group = last_place brief.groups.value;
 }
+
+abbrev pub role_told : Arc Brief Global → Role
+role_told brief = brief_role brief.value
 
 -- ---- sums, each a list of polynomials
 

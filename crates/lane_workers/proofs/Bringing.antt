@@ -27,7 +27,8 @@ use Rattle.instance_table.specs.declared.brief.Brief.{Brief}
 use Rattle.param_set.specs.declared.params.Params.{Params}
 use Rattle.share_spec.specs.Seeds.{seed_in}
 use Rattle.proto_names.specs.Roles.{Role, role_of}
-use Rattle.party_roll.specs.Briefs.{is_made, IsBrief, brief_role}
+use Rattle.instance_table.specs.Tables.{brief_role}
+use Rattle.party_roll.specs.Briefs.{is_made, IsBrief}
 use Rattle.session_rules.specs.declared.call.Call.TheVariants as call
 use Rattle.session_rules.specs.declared.reply.Reply.{Reply}
 use Rattle.session_rules.specs.declared.reply.Reply.TheVariants as reply

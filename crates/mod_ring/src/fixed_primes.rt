@@ -12,7 +12,7 @@ const ROOTS: (u64, u64) = (3_391_169_269_051_246_823, 814_482_755_461_094_628);
 
 /// The tables of transforms modulo two fixed primes, for products over the whole numbers: a product of
 /// polynomials with n coefficients is known by its residues modulo both where it is small.
-pub(crate) fn whole_tables(alloc: Global, n: u64) -> Result<(Tables, Tables), AllocError>
+pub fn whole_tables(alloc: Global, n: u64) -> Result<(Tables, Tables), AllocError>
     requires degree { (8 ≤ n) × (n ≤ 4096) × IsTrue (is_power_of_two n) }
     ensures first { IfOk result (λ t.
         (t.0.modulus ≡ 4611686018427322369) × (t.0.length ≡ n)) }

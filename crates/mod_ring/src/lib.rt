@@ -23,6 +23,7 @@ mod transformed;
 mod turns;
 mod wide_sums;
 
+pub use fixed_primes::whole_tables;
 pub use mod_inverse::inverse;
 pub use pairs::{Ciphertext, PublicKey};
 pub use poly::{Poly, Polys};

@@ -11,7 +11,7 @@ use Rattle.proto_names.specs.declared.signature.Signature.TheVariants.{Pk, Dec}
 use Rattle.instance_table.specs.declared.brief.Brief.{Brief}
 use Rattle.session_spec.specs.Settings.{Setting}
 use Rattle.session_spec.specs.Shares.{share_rows, rows_by, public_key_share, decryption_share}
-use Rattle.party_roll.specs.Briefs.{brief_role}
+use Rattle.instance_table.specs.Tables.{brief_role}
 use Rattle.party_roll.specs.Seeds.{seeds_of}
 use Rattle.party_roll.proofs.Told.{seed_of_roll}
 

@@ -4,7 +4,6 @@ use Rattle.param_set.specs.Moduli.{digit_rows}
 use Rattle.ring_spec.specs.Ring.{IsPoly}
 use Rattle.param_set.specs.declared.params.Params.{Params}
 use Rattle.proto_names.specs.Names.{polys_of_brief}
-use Rattle.proto_names.specs.Roles.{Role, last_place}
 use Rattle.proto_names.specs.declared.signature.Signature.{Signature}
 use Rattle.proto_names.specs.declared.signature.Signature.TheVariants.{Pk, Rlk1, Rlk2, Rot, Dec}
 use Rattle.instance_table.specs.declared.brief.Brief.{Brief}
@@ -22,8 +21,3 @@ pub record IsBrief (p : Params) (brief : Brief) : Type 0 where
   pub made : IsTrue (is_made brief.signature)
   pub number : length brief.polys ≡ polys_of_brief brief.signature (digit_rows p.q p.digit_bits)
   pub fit : All (IsPoly p.q p.n) brief.polys
-
--- what its instance keeps, whose group is the last of those that are told
-abbrev pub brief_role : Brief → Role
-brief_role brief =
-    record { signature = brief.signature; id = brief.id; set = brief.set; round1 = brief.round1; group = last_place brief.groups.value }

@@ -12,7 +12,8 @@ ghost use Rattle.share_spec.specs.Seeds.{seed_in};
 ghost use Rattle.session_spec.specs.Settings.{Setting};
 ghost use Rattle.session_spec.specs.Shares.{share_rows};
 ghost use Rattle.party_roll.specs.declared.placed.Placed.{Placed};
-ghost use Rattle.party_roll.specs.Briefs.{IsBrief, brief_role};
+ghost use Rattle.party_roll.specs.Briefs.{IsBrief};
+ghost use Rattle.instance_table.specs.Tables.{brief_role};
 ghost use Rattle.party_roll.specs.Values.{value_in};
 
 use instance_table::{Brief, Share};

@@ -149,7 +149,8 @@ impl SeedParty {
     ghost use Rattle.session_spec.specs.Shares.{share_rows};
     ghost use Rattle.param_set.specs.Moduli.{digit_rows};
     ghost use Rattle.proto_names.specs.Names.{rows_of};
-    ghost use Rattle.party_roll.specs.Briefs.{IsBrief, brief_role};
+    ghost use Rattle.party_roll.specs.Briefs.{IsBrief};
+    ghost use Rattle.instance_table.specs.Tables.{brief_role};
     ghost use Rattle.std.specs.Prelude.{length};
 
     /// The rows of its share of an instance.

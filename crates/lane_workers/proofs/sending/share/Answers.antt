@@ -4,7 +4,7 @@ use Rattle.proto_names.specs.Instances.{instance}
 use Rattle.ring_spec.specs.Ring.{IsPoly}
 use Rattle.param_set.specs.Numbers.{numbers_of}
 use Rattle.param_set.specs.declared.params.Params.{Params}
-use Rattle.party_roll.specs.Briefs.{brief_role}
+use Rattle.instance_table.specs.Tables.{brief_role}
 use Rattle.session_rules.specs.declared.call.Call.{Call}
 use Rattle.session_rules.specs.declared.call.Call.TheVariants as call
 use Rattle.session_rules.specs.States.{State}
