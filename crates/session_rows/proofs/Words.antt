@@ -1,4 +1,5 @@
--- Short words for numbers of parameters, for scripts, for the calls of caller 0 with their replies, and for the instances of a session.
+-- Short words for numbers of parameters, for scripts, for the calls of caller 0 with their replies, and for the
+-- instances of a session.
 use Rattle.std.specs.Prelude.{◌≡◌, ℕ, List, [], ◌∷◌, ◌++◌, map, true, false}
 use Rattle.param_set.specs.Numbers.{Numbers}
 use Rattle.circuit_form.specs.declared.node.Node.{Node}
@@ -24,7 +25,8 @@ use Rattle.session_rules.specs.Courses.{serial_run}
 
 -- ---- numbers
 
--- those of a ring of 8 coefficients modulo 31525197391593473, with plaintexts modulo 16, where two of three parties act
+-- those of a ring of 8 coefficients modulo 31525197391593473, with plaintexts modulo 16, where two of three parties
+-- act
 abbrev pub frame : Numbers
 frame = record { n = 8; q = 31525197391593473; t = 16; digit_bits = 8; balanced = false; err = 1; flood = 1; parties = 3; threshold = 2 }
 
