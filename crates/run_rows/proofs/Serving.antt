@@ -27,12 +27,12 @@ serves_constant seeds = inl refl
 
 pub serves : (seeds : List (List ℕ)) → Serves w seeds 1 (key_of w seeds (role Pk 7 5 0))
 unfolding members members_to has
-serves seeds = inr (record { role = role Pk 7 5 0; signature = refl; parties = refl; key = refl })
+serves seeds = inr (record { role = role Pk 7 5 0; signature = refl; parties = refl; made = refl })
 
 pub no_key_serves : (seeds : List (List ℕ)) → Serves w seeds 1 no_key → ⊥
 unfolding owners key_of pk_from uniform_poly
 no_key_serves seeds (inl e) = absurd (omega (arith, e))
-no_key_serves seeds (inr k) = let lengths : 0 ≡ 2 = ap (λ (key : Key). length key.p1) k.key in absurd (omega (arith, lengths))
+no_key_serves seeds (inr k) = let lengths : 0 ≡ 2 = ap (λ (key : Key). length key.p1) k.made in absurd (omega (arith, lengths))
 
 -- ---- decryptions
 
@@ -61,5 +61,5 @@ answer_premises a b c = (
   omega arith,
   refl,
   record { signature = refl; parties = refl },
-  inr (record { role = role Pk 1 3 0; signature = refl; parties = refl; key = refl }),
+  inr (record { role = role Pk 1 3 0; signature = refl; parties = refl; made = refl }),
 )
