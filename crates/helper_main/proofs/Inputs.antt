@@ -4,17 +4,18 @@ use Rattle.std.specs.Prelude.{IsSome}
 use Rattle.std.specs.List.{find, slice_get}
 use Rattle.std.specs.Option.{option_map, option_or, option_eq}
 use Rattle.std.proofs.lemmas.Bool.{and_parts, and_from, eqb-true, eq-eqb, cases_lt}
-use Rattle.std.proofs.lemmas.List.{get_or_default}
+use Rattle.std.proofs.lemmas.List.{get_or_default, get_or_past}
 use Rattle.std.proofs.lemmas.List.Elements.{All-nil, All-push, All-contains, All-same, All-weaker, All-get_or}
 use Rattle.std.proofs.lemmas.List.Folds.{find-append}
+use Rattle.std.proofs.lemmas.List.Sums.{get_or-le-sum_by}
 use Rattle.std.proofs.lemmas.Option.{slice_get_within}
 use Rattle.ring_spec.specs.Ring.{IsPoly}
 use Rattle.circuit_form.specs.Circuits.{owners}
 use Rattle.party_roll.specs.declared.placed.Placed.{Placed}
-use Rattle.party_roll.specs.Values.{value_in, value_of, is_at, IsPlain}
+use Rattle.party_roll.specs.Values.{value_in, value_of, is_at, IsPlain, HasStream}
 use Rattle.session_rules.proofs.Contained.{find_some}
 use Rattle.session_script.specs.Asked.{Named, Asked}
-use Rattle.session_script.specs.Kept.{IsNamed, AreNamed}
+use Rattle.session_script.specs.Kept.{IsNamed, AreNamed, IsAccepted, inputs_of, inputs}
 use Rattle.helper_main.specs.Inputs.{no_circuit, circuit_at, OwnsInput, asked_value, IsAsked, IsOwn, IsBefore, HasOwn}
 
 -- ---- where a value is found
@@ -138,6 +139,23 @@ own_value a p c k d j values before own h = found_at a values d j (find (is_at d
 
 pub own_plain : (a : Asked) (p c k : ℕ) (values : List Placed) → HasOwn a p c k values → All (IsPlain a.numbers.t a.numbers.n) values
 own_plain a p c k values h = All-weaker (IsAsked a) (IsPlain a.numbers.t a.numbers.n) (λ x asked. asked.plain) values h.right
+
+-- few circuits with few inputs each: there is a stream for each
+owned_stream : (a : Asked) (p : ℕ) (x : Placed) → IsAccepted a → IsOwn a p x → HasStream x
+unfolding owners
+owned_stream a p x accepted own =
+    let within : x.input < length (owners (circuit_at a x.circuit).nodes) = slice_get_within (owners (circuit_at a x.circuit).nodes) x.input p own in
+    elim (cases_lt x.circuit (length a.circuits)) [
+      | inl there ↦
+          let few : length (owners (circuit_at a x.circuit).nodes) ≤ inputs a.circuits = get_or-le-sum_by inputs_of a.circuits x.circuit no_circuit there in
+          (omega (arith, there, accepted.few), omega (arith, within, few, accepted.few_inputs))
+      | inr more ↦
+          let none : length (owners (circuit_at a x.circuit).nodes) ≡ 0 = ap (λ (z : Named). length (owners z.nodes)) (get_or_past a.circuits x.circuit no_circuit more) in
+          absurd (omega (arith, within, none))
+    ]
+
+pub own_streams : (a : Asked) (p c k : ℕ) (values : List Placed) → IsAccepted a → HasOwn a p c k values → All HasStream values
+own_streams a p c k values accepted h = All-weaker (IsOwn a p) HasStream (λ x own. owned_stream a p x accepted own) values h.own
 
 -- ---- a script's circuits
 

@@ -1,6 +1,6 @@
 -- What parties bring is what the calls of a session ask for.
-use Rattle.std.proofs.Common.{◌≡◌, ◌∙◌, sym, ap, subst, refl, ℕ, zero, suc, ◌<◌, ◌≤◌, true, nat_lt, inl, inr, List, [], length, map, get_or, slice_index_or, Option, Some, None, IsTrue, arith}
-use Rattle.std.proofs.lemmas.Bool.{cases_lt, and_parts, ltb-true}
+use Rattle.std.proofs.Common.{◌≡◌, ◌∙◌, sym, ap, subst, refl, ℕ, zero, suc, ◌<◌, true, inl, inr, List, [], length, map, get_or, slice_index_or, Option, Some, None, IsTrue, arith}
+use Rattle.std.proofs.lemmas.Bool.{cases_lt}
 use Rattle.std.proofs.lemmas.List.{get_or-map, get_or_past, length-map}
 use Rattle.ring_spec.specs.Pairs.{Cipher}
 use Rattle.draw_spec.specs.Streams.{input_stream}
@@ -33,8 +33,8 @@ use Rattle.session_rules.specs.declared.call.Call.TheVariants as call
 use Rattle.session_rules.specs.declared.reply.Reply.{Reply}
 use Rattle.session_rules.specs.declared.reply.Reply.TheVariants as reply
 use Rattle.session_rules.specs.declared.fixed.Fixed.{Fixed}
-use Rattle.session_rules.specs.States.{State, plan, no_plan, is_admitted}
-use Rattle.session_rules.specs.Steps.{judge, step, brief, told, is_input}
+use Rattle.session_rules.specs.States.{State, plan, no_plan}
+use Rattle.session_rules.specs.Steps.{judge, step, brief, told}
 use Rattle.session_rules.specs.declared.fixed.Plan.{Plan}
 use Rattle.session_rules.specs.Fixing.{plan_of}
 use Rattle.session_rules.specs.Tasks.{briefed}
@@ -179,22 +179,6 @@ owner_planned w c k = elim (cases_lt c (length w.offers)) [
       let none : nodes_at w c ≡ [] = ap nodes_of (get_or_past w.offers c no_offer more) in
       ap (λ (z : Plan). slice_index_or z.owners k 0) at ∙ sym (ap (λ (z : List Node). slice_index_or (owners z) k 0) none ∙ no_owners k)
 ]
-
--- inputs are few
-pub few_places : (w : Setting) (c k : ℕ) → length w.offers ≤ 64 → length (plan (rules w) c).owners ≤ 256 → is_input (rules w) c k ≡ true → (c < 65536) × (k < 65536)
-unfolding is_input
-few_places w c k few_circuits few_inputs its =
-    let both = and_parts (is_admitted (plan (rules w) c)) (nat_lt k (length (plan (rules w) c).owners)) its in
-    let below : k < length (plan (rules w) c).owners = ltb-true k (length (plan (rules w) c).owners) both.1 in (
-      elim (cases_lt c (length w.offers)) [
-        | inl less ↦ omega arith
-        | inr more ↦
-            let at : plan (rules w) c ≡ no_plan = get_or_past (rules w).plans c no_plan (omega (arith, rules_number w)) in
-            let none : length (plan (rules w) c).owners ≡ 0 = ap (λ (z : Plan). length z.owners) at in
-            absurd (omega arith)
-      ],
-      omega arith,
-    )
 
 -- an input that its owner encrypts under the public key is the circuit's
 pub input_brought : (w : Setting) (seeds : List (List ℕ)) (is : List Instance) (key : Key) (c k number : ℕ) (ct : Cipher) (p : Params) → w.numbers ≡ numbers_of p

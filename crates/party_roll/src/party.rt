@@ -69,8 +69,6 @@ pub trait Party: Sync {
         requires ring { params self.now ≡ ring.now.params }
         requires key { KeyFits ring.now.params.q ring.now.params.n key.now }
         requires place { IsSome (value_in (values self.now) circuit input) }
-        requires circuit { circuit < 65536 }
-        requires input { input < 65536 }
         ensures fits { IfOk result (λ c. CipherFits ring.now.params.q ring.now.params.n c) }
         ensures honest { (m : List ℕ) → value_in (values self.now) circuit input ≡ Some m → tells self.now ≡ true
             → IfOk result (λ c. c ≡ drawn_encryption ring.now.params.q ring.now.params.n ring.now.params.t ring.now.params.err key.now m (seed_in (seeds self.now) (number self.now)) (input_stream circuit input) 0) };

@@ -8,7 +8,7 @@ ghost use Rattle.bfv_spec.specs.Shares.{honest_pk};
 ghost use Rattle.dec_spec.specs.Decrypting.{honest_dec};
 ghost use Rattle.share_spec.specs.Seeds.{share as share_at, part};
 ghost use Rattle.party_roll.specs.Seeds.{seeds_of};
-ghost use Rattle.party_roll.specs.Values.{IsPlain};
+ghost use Rattle.party_roll.specs.Values.{IsPlain, HasStream};
 
 use crate::joint::JointDealing;
 use crate::party::Party;
@@ -38,6 +38,7 @@ pub struct SeedParty {
     ghost dealt: { share ≡ share_at params.q params.n params.threshold (seeds_of roll.master params.parties) number },
     ghost fits: { IsPoly params.q params.n share },
     ghost plain: { All (IsPlain params.t params.n) values },
+    ghost streams: { All HasStream values },
 }
 
 impl SeedParty {
@@ -53,6 +54,7 @@ impl SeedParty {
         requires some_party { 1 ≤ p }
         requires of_all { p ≤ ring.now.params.parties }
         requires plain { All (IsPlain ring.now.params.t ring.now.params.n) values }
+        requires streams { All HasStream values }
         ensures params { IfOk result (λ party. ⟦<SeedParty as Party>⟧.params party ≡ ring.now.params) }
         ensures number { IfOk result (λ party. ⟦<SeedParty as Party>⟧.number party ≡ p) }
         ensures public { IfOk result (λ party. ⟦<SeedParty as Party>⟧.public party ≡ party_seed roll.now.master 0) }
@@ -76,6 +78,7 @@ impl SeedParty {
         requires some_party { 1 ≤ p }
         requires of_all { p ≤ ring.now.params.parties }
         requires plain { All (IsPlain ring.now.params.t ring.now.params.n) values }
+        requires streams { All HasStream values }
         ensures params { IfOk result (λ party. ⟦<SeedParty as Party>⟧.params party ≡ ring.now.params) }
         ensures number { IfOk result (λ party. ⟦<SeedParty as Party>⟧.number party ≡ p) }
         ensures public { IfOk result (λ party. ⟦<SeedParty as Party>⟧.public party
@@ -199,7 +202,7 @@ impl Party for SeedParty {
         })
     }
 
-    #[tactic(auto, using(crate::proofs::Placing::value_in_plain, crate::proofs::Told::seed_of_roll))]
+    #[tactic(auto, using(crate::proofs::Placing::value_in_plain, crate::proofs::Placing::value_in_stream, crate::proofs::Told::seed_of_roll))]
     fn input(
         &self,
         alloc: Global,

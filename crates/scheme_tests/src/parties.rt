@@ -9,7 +9,7 @@ ghost use Rattle.session_spec.specs.Settings.{Setting};
 ghost use Rattle.session_spec.specs.Shares.{share_rows};
 ghost use Rattle.party_roll.specs.Seeds.{seeds_of};
 ghost use Rattle.party_roll.specs.Briefs.{IsBrief};
-ghost use Rattle.party_roll.specs.Values.{value_in, IsPlain};
+ghost use Rattle.party_roll.specs.Values.{value_in, IsPlain, HasStream};
 
 use crate::common::frame;
 use instance_table::{Brief, Share};
@@ -76,8 +76,6 @@ fn input_of<P: Party>(
     requires ring { P.params party.now ≡ ring.now.params }
     requires key { KeyFits ring.now.params.q ring.now.params.n key.now }
     requires place { IsSome (value_in (P.values party.now) circuit input) }
-    requires circuit { circuit < 65536 }
-    requires input { input < 65536 }
 {
     party.input(alloc, ring, key, circuit, input)
 }
@@ -258,6 +256,7 @@ fn two_values(alloc: Global, ring: &Ring) -> Result<Values, AllocError>
     requires n { ring.now.params.n ≡ 8 }
     requires t { ring.now.params.t ≡ 16 }
     ensures plain { IfOk result (λ values. All (IsPlain ring.now.params.t ring.now.params.n) values) }
+    ensures streams { IfOk result (λ values. All HasStream values) }
     ensures place { IfOk result (λ values. IsSome (value_in values 2 1)) }
 {
     let mut values = Values::new(alloc);

@@ -1,12 +1,10 @@
-use Rattle.std.proofs.Common.{◌≡◌, ◌∙◌, sym, ap, subst, refl, ℕ, ◌+◌, ◌≤◌, List, map, drop, length, get_or, arith}
+use Rattle.std.proofs.Common.{◌≡◌, ◌∙◌, sym, ap, subst, refl, ℕ, ◌+◌, List, map, drop, get_or, arith}
 use Rattle.ring_spec.specs.Pairs.{CipherFits}
 use Rattle.draw_spec.specs.Streams.{input_stream}
 use Rattle.bfv_spec.specs.Drawn.{drawn_encryption}
 use Rattle.param_set.specs.Numbers.{numbers_of}
 use Rattle.param_set.specs.declared.params.Params.{Params}
 use Rattle.session_rules.specs.declared.call.Call.TheVariants as call
-use Rattle.session_rules.specs.declared.fixed.Fixed.{Fixed}
-use Rattle.session_rules.specs.States.{plan}
 use Rattle.session_rules.specs.Tasks.{gives_at}
 use Rattle.share_spec.specs.Seeds.{seed_in}
 use Rattle.session_spec.specs.Settings.{value_at}
@@ -17,27 +15,11 @@ use Rattle.lane_workers.specs.Acting.{Owns}
 use Rattle.lane_workers.specs.Doing.{BrokeOff}
 use Rattle.lane_workers.proofs.Going.{if_err, err_spent, known_is, begins, calls_on, stops_on, lacks_on, one_there, none_there}
 use Rattle.lane_workers.proofs.Owing.{key_later}
-use Rattle.lane_workers.proofs.Bringing.{few_places, input_brought}
+use Rattle.lane_workers.proofs.Bringing.{input_brought}
 use Rattle.lane_workers.proofs.sending.give_all.Goals as goal
 
 pub places-init : goal.places-init
 places-init g c = record { about = refl; doing = begins (map gives_at c.args.places.now) c.args.session.now }
-
-pub input-requires-clause-circuit : goal.input-requires-clause-circuit
-input-requires-clause-circuit g c =
-    let st = c.args.session.now.standing in
-    let place = get_or c.args.places.now c.places.place-index (0, 0) in
-    let k = known c.args.session.now in
-    let own : Owns k.setting (g.P.Party.number c.args.party.now) place.0 place.1 = c.requires.own c.places.place-index (0, 0) c.places-test.true in
-    (few_places k.setting place.0 place.1 st.few (subst (λ (z : Fixed). length (plan z place.0).owners ≤ 256) st.rules_are (st.few_inputs place.0)) own.there).0
-
-pub input-requires-clause-input : goal.input-requires-clause-input
-input-requires-clause-input g c =
-    let st = c.args.session.now.standing in
-    let place = get_or c.args.places.now c.places.place-index (0, 0) in
-    let k = known c.args.session.now in
-    let own : Owns k.setting (g.P.Party.number c.args.party.now) place.0 place.1 = c.requires.own c.places.place-index (0, 0) c.places-test.true in
-    (few_places k.setting place.0 place.1 st.few (subst (λ (z : Fixed). length (plan z place.0).owners ≤ 256) st.rules_are (st.few_inputs place.0)) own.there).1
 
 pub input-requires-in-places-clause-ct : goal.input-requires-in-places-clause-ct
 input-requires-in-places-clause-ct g c κs within =
