@@ -8,6 +8,7 @@ ghost use Rattle.param_set.specs.Numbers.{numbers_of};
 ghost use Rattle.session_spec.specs.Settings.{Setting};
 ghost use Rattle.session_spec.specs.Shares.{share_rows};
 ghost use Rattle.party_roll.specs.Seeds.{seeds_of};
+ghost use Rattle.instance_table.specs.Tables.{brief_role};
 ghost use Rattle.party_roll.specs.Briefs.{IsBrief};
 ghost use Rattle.party_roll.specs.Values.{value_in, IsPlain, HasStream};
 
@@ -50,7 +51,8 @@ fn share_of<P: Party>(
     ensures rows { IfOk result (λ share. length share.rows ≡ rows_of brief.now.signature (digit_rows ring.now.params.q ring.now.params.digit_bits)) }
     ensures fit { IfOk result (λ share. All (Fits ring.now) share.rows) }
     ensures honest { (w : Setting) → w.numbers ≡ numbers_of ring.now.params → w.public ≡ party_seed roll.now.master 0
-        → IfOk result (λ share. share.rows ≡ share_rows w (seeds_of roll.now.master ring.now.params.parties) brief.now.signature brief.now.id brief.now.set.bits brief.now.polys (P.number party.now)) }
+        → IfOk result (λ share. share.rows ≡ share_rows w (seeds_of roll.now.master ring.now.params.parties) (brief_role brief.now)
+        brief.now.polys (P.number party.now)) }
 {
     party.share(alloc, ring, brief)
 }

@@ -1,19 +1,19 @@
 -- The history goes on by the call, and the polynomials stay honest.
-use Rattle.std.proofs.Common.{◌∙◌, refl}
+use Rattle.std.proofs.Common.{refl}
 use Rattle.session_rules.specs.declared.call.Call.TheVariants as call
 use Rattle.session_rules.specs.declared.reply.Reply.{Reply}
 use Rattle.session_rules.specs.Steps.{judge, step}
 use Rattle.session_spec.specs.Stores.{nothing_brought}
 use Rattle.session_state.specs.Standings.{setting, state}
 use Rattle.session_core.proofs.Brought.{return_brings}
-use Rattle.session_core.proofs.Going.{goes_on, called, reply_is}
+use Rattle.session_core.proofs.Going.{goes_on, called}
 use Rattle.session_core.proofs.session.Session.give_back.Goals as goal
 
-pub invariant_of-self-2 : goal.invariant_of-self-2
+pub invariant_of-self : goal.invariant_of-self
 unfolding judge step
-invariant_of-self-2 g c =
+invariant_of-self g c =
     let s = c.begin.new.self in let st = s.standing in let ok = c.give_back-reply.ensures in let b = c.begin.ensures in
-    let x = goes_on c.args.self.now s c.give_back.new.self c.push_reserved.new.self.items c.args.caller (call.GiveBack c.args.circuit) _ c.plain_copy.result nothing_brought c.plain_copy.ensures b.waits c.in_ok-begin.ensures.more tt
+    let x = goes_on c.args.self.now s c.give_back-reply.new.self c.push_reserved.new.self.items c.args.caller (call.GiveBack c.args.circuit) _ c.plain_copy.result nothing_brought c.plain_copy.ensures b.waits c.in_ok-begin.ensures.more tt
     (record { setting = ok.setting; params = ok.params; reply = ok.reply; state = ok.state; store = ok.store })
     (λ t. return_brings (setting st) _ (state st) c.args.caller c.args.circuit nothing_brought)
     c.push_reserved.ensures.items in

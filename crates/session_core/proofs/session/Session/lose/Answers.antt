@@ -5,7 +5,6 @@ use Rattle.session_rules.specs.declared.reply.Reply.{Reply}
 use Rattle.session_rules.specs.Steps.{judge, step}
 use Rattle.session_spec.specs.Stores.{nothing_brought}
 use Rattle.session_state.specs.Standings.{setting, state}
-use Rattle.session_core.specs.Sessions.{IsParty}
 use Rattle.session_core.proofs.Brought.{lose_brings}
 use Rattle.session_core.proofs.Going.{goes_on, called, reply_is}
 use Rattle.session_core.proofs.session.Session.lose.Goals as goal
@@ -14,8 +13,7 @@ pub invariant_of-self-2 : goal.invariant_of-self-2
 unfolding judge step
 invariant_of-self-2 g c =
     let s = c.begin.new.self in let st = s.standing in let ok = c.in_ok-reply.ensures in let b = c.begin.ensures in
-    let party : IsParty st.params.parties c.args.p = rw b.waits.standing c.requires.party in
-    let x = goes_on c.args.self.now s c.lose.new.self c.push_reserved.new.self.items c.args.caller (call.Lose c.args.p) _ c.plain_copy.result nothing_brought c.plain_copy.ensures b.waits c.in_ok-begin.ensures.more party
+    let x = goes_on c.args.self.now s c.lose.new.self c.push_reserved.new.self.items c.args.caller (call.Lose c.args.p) _ c.plain_copy.result nothing_brought c.plain_copy.ensures b.waits c.in_ok-begin.ensures.more tt
     (record { setting = ok.setting; params = ok.params; reply = ok.reply; state = ok.state; store = ok.store })
     (λ t. lose_brings (setting st) _ (state st) c.args.p nothing_brought)
     c.push_reserved.ensures.items in
