@@ -1,5 +1,5 @@
 -- What T parties decrypt of a circuit that is answered is its plain value.
-use Rattle.std.proofs.Common.{◌≡◌, ◌∙◌, sym, ap, refl, ℕ, ◌<◌, true, false, inl, inr, List, [], length, slice_index_or, arith}
+use Rattle.std.proofs.Common.{◌≡◌, ◌∙◌, sym, ap, refl, ℕ, ◌<◌, true, false, inl, inr, List, [], ◌∷◌, length, slice_index_or, arith}
 use Rattle.ring_spec.specs.Ring.{ring_sum}
 use Rattle.bfv_spec.specs.Scheme.{decryption}
 use Rattle.share_spec.specs.Sets.{count}

@@ -3,7 +3,7 @@ use Rattle.std.proofs.Common.{◌≡◌, ℕ, ◌<◌, zero, suc, true, false, L
 use Rattle.std.specs.Prelude.{unwrap_or}
 use Rattle.std.proofs.lemmas.Bool.{ltb-true}
 use Rattle.param_set.specs.declared.params.Params.{Params}
-use Rattle.circuit_form.specs.declared.node.Node.TheVariants.{Input}
+use Rattle.circuit_form.specs.declared.node.Node.TheVariants.{Input, Const, Add}
 use Rattle.party_roll.specs.declared.placed.Placed.{Placed}
 use Rattle.party_roll.specs.Values.{value_in}
 use Rattle.session_rules.specs.declared.fixed.Fixed.{Fixed}
@@ -19,13 +19,13 @@ use Rattle.session_core.specs.Sessions.{IsParty}
 use Rattle.lane_workers.specs.Acting.{Owns, CanAct, IsHonestParty, OwnsPlace}
 use Rattle.lane_workers.specs.Doing.{Acted, is_made_first, StopsFor, again}
 use Rattle.spec_rows.proofs.Settings.{p, seven, framed, degree_is, no_factor}
-use Rattle.session_rows.proofs.Words.{sum_of, any_two, joins}
+use Rattle.session_rows.proofs.Words.{linear, any_two, joins}
 use Rattle.session_rows.proofs.Computed.{plans}
 
 -- ---- what was called, and where it stopped
 
 abbrev pub alone : Fixed
-alone = any_two (sum_of (3 ∷ []))
+alone = any_two (linear (Input 3 ∷ Const seven ∷ Add 0 1 ∷ []) (3 ∷ []) [])
 
 -- what is called is behind what was
 pub joined_behind : Acted (Leaves 1 (joins_task 1 ∷ joins_task 2 ∷ []) (joins_task 2 ∷ [])) [] (joins 1 ∷ [])
