@@ -1,5 +1,6 @@
 -- The definitions that a history is computed with.
 use Rattle.std.specs.Prelude.{⊤}
+use Rattle.participants.specs.Loads as loads
 use Rattle.session_rules.specs.States as states
 use Rattle.session_rules.specs.Issues as issues
 use Rattle.session_rules.specs.Deeds as deeds
@@ -22,7 +23,7 @@ unfoldable pub rules : ⊤
 unfolding
     states.has_live states.has_done states.opening
     issues.keys issues.enough issues.condition issues.may_issue issues.may_decrypt issues.next_decryption
-    issues.next_signature issues.outdated issues.rule_1 issues.least_present issues.issued_as issues.rule_2
+    issues.next_signature issues.outdated issues.rule_1 issues.chosen_present issues.issued_as issues.rule_2
     issues.next_move issues.instances_after issues.moved issues.moves_in issues.issued_in issues.most_moves issues.moves
     issues.issue
     deeds.falls deeds.after_loss deeds.answered_by deeds.changed deeds.done
@@ -36,8 +37,8 @@ unfolding
     sets.has sets.members_to sets.members
     instances.instance instances.lives instances.is_done instances.fresh instances.lacks instances.missing
     instances.with_share instances.after_share instances.after_void instances.after_lost instances.owed_shares
-    groups.with_party groups.without_party groups.set_of groups.least_of groups.is_outside groups.first_outside
-    groups.number_outside
+    groups.with_party groups.without_party groups.set_of groups.is_outside groups.first_outside groups.number_outside
+    loads.load loads.loads_of loads.earlier loads.first_from loads.chosen_from loads.chosen
     names.same names.rows_of
 rules = tt
 

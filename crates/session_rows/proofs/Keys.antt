@@ -207,7 +207,8 @@ unfolding rules
 waits_for_a_rotation = (refl, refl, refl)
 
 -- three circuits, of which the first is refused: what it alone needs is not issued, and its inputs are owed
--- by nobody; all else goes by rising rotations and by rising circuits
+-- by nobody; all else goes by rising rotations and by rising circuits. The first decryption is opened when the
+-- second is issued: so that has party 3, which waits for nothing, and party 1
 pub serves_many_circuits : Comes three_circuits all_three [] (
     joins 1 ∷ joins 2 ∷ joins 3 ∷
     owes 1 (1 ∷ 2 ∷ 3 ∷ []) [] ∷ tells 1 Pk one_two ∷ counts 1 1 1 1 ∷ tells 2 (Rot 3) one_two ∷
@@ -217,16 +218,16 @@ pub serves_many_circuits : Comes three_circuits all_three [] (
     owes 3 [] ((1, 0) ∷ (2, 0) ∷ (2, 1) ∷ []) ∷ gives 1 0 ∷ gives 2 0 ∷ gives 2 1 ∷
     takes 1 ∷ finishes 1 ∷
     takes 2 ∷ finishes 2 ∷ rests ∷
-    owes 1 (4 ∷ 5 ∷ []) [] ∷ tells 4 (Dec 1) one_two ∷ counts 4 1 1 1 ∷ tells 5 (Dec 2) one_two ∷
+    owes 1 (4 ∷ 5 ∷ []) [] ∷ tells 4 (Dec 1) one_two ∷ counts 4 1 1 1 ∷ tells 5 (Dec 2) one_three ∷
     counts 5 1 1 1 ∷
-    owes 2 (4 ∷ 5 ∷ []) [] ∷ tells 4 (Dec 1) one_two ∷ completes 4 2 1 ∷ tells 5 (Dec 2) one_two ∷
-    completes 5 2 1 ∷
-    owes 3 [] [] ∷ rests ∷ [])
+    owes 2 (4 ∷ []) [] ∷ tells 4 (Dec 1) one_two ∷ completes 4 2 1 ∷
+    owes 3 (5 ∷ []) [] ∷ tells 5 (Dec 2) one_three ∷ completes 5 3 1 ∷
+    rests ∷ [])
     (seen 7 (
     issued 1 Pk one_two 1 one_two Complete 0 ∷
     issued 2 (Rot 3) one_two 1 one_two Complete 0 ∷
     issued 3 (Rot 5) one_two 1 one_two Complete 0 ∷
     issued 4 (Dec 1) one_two 1 one_two Complete 0 ∷
-    issued 5 (Dec 2) one_two 1 one_two Complete 0 ∷ []) ((false ∷ false ∷ []) ∷ (true ∷ []) ∷ (true ∷ true ∷ []) ∷ []) (too_noisy ∷ Answered ∷ Answered ∷ []))
+    issued 5 (Dec 2) one_three 1 one_three Complete 0 ∷ []) ((false ∷ false ∷ []) ∷ (true ∷ []) ∷ (true ∷ true ∷ []) ∷ []) (too_noisy ∷ Answered ∷ Answered ∷ []))
 unfolding rules
 serves_many_circuits = (refl, refl, refl)

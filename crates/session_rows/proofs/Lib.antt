@@ -4,6 +4,7 @@ pub mod Circuits
 pub mod Sums
 pub mod Keys
 pub mod Losses
+pub mod Shared
 pub mod Lanes
 pub mod Refusals
 pub mod Facts

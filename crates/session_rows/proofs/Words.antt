@@ -131,6 +131,16 @@ flooded = record {
   turns = [];
 }
 
+-- two constants and four parties, of which any two act
+abbrev pub two_constants : Fixed
+two_constants = record {
+  numbers = record frame { parties = 4 };
+  threshold = 2;
+  rows = 7;
+  plans = constant ∷ constant ∷ [];
+  turns = [];
+}
+
 -- the parties that join at first
 abbrev pub all_three : List ℕ
 all_three = 1 ∷ 2 ∷ 3 ∷ []
@@ -164,6 +174,9 @@ one_three = parties 5
 
 abbrev pub two_three : PartySet
 two_three = parties 6
+
+abbrev pub three_four : PartySet
+three_four = parties 12
 
 -- number, signature, parties, attempt, those that sent, stage, and the number of the first round; its group is
 -- the first

@@ -1,5 +1,5 @@
 -- What is contained in a list, after a map, a filter or a search.
-use Rattle.std.proofs.Common.{◌≡◌, ◌∙◌, sym, ap, subst, refl, ℕ, zero, suc, ◌+◌, ◌<◌, ◌≤◌, Bool, true, false, cond, ◌⊎◌, inl, inr, List, [], ◌∷◌, length, map, take, filter, find, count_by, Contains, Some, None, ◌||◌, arith}
+use Rattle.std.proofs.Common.{◌≡◌, ◌∙◌, sym, ap, subst, refl, ℕ, zero, suc, ◌+◌, ◌<◌, ◌≤◌, Bool, true, false, cond, ◌⊎◌, inl, inr, List, [], ◌∷◌, length, map, filter, find, count_by, Contains, Some, None, ◌||◌, arith}
 use Rattle.std.specs.List.{range_with_len, list_any}
 use Rattle.std.proofs.lemmas.Bool.{both_ways, or_parts, cases_Bool, cases_eq}
 use Rattle.std.proofs.lemmas.List.Elements.{filter_agree}
@@ -37,17 +37,6 @@ contains_map_from g (x ∷ xs) y m = elim (contains_cases (g x) (map g xs) y m) 
   | inl same ↦ record { source = x; within = contains_here x xs; same = same }
   | inr later ↦ let c = contains_map_from g xs y later in record { source = c.source; within = contains_there x xs c.source c.within; same = c.same }
 ]
-
-pub contains_take : {X : Type 0} (k : ℕ) (xs : List X) (x : X) → Contains (take k xs) x → Contains xs x
-contains_take zero xs x m = absurd (contains_nil x m)
-contains_take (suc k) [] x m = m
-contains_take (suc k) (y ∷ ys) x m = elim (contains_cases y (take k ys) x m) [
-  | inl same ↦ rw (← same) (contains_here y ys)
-  | inr later ↦ contains_there y ys x (contains_take k ys x later)
-]
-
-pub contains_of_taken : {X : Type 0} (k : ℕ) (xs ys : List X) (x : X) → ys ≡ take k xs → Contains ys x → Contains xs x
-contains_of_taken {X} k xs ys x e m = contains_take k xs x (subst (λ (zs : List X). Contains zs x) e m)
 
 -- what a filter keeps passes the test, and what passes is kept
 filter_here : {X : Type 0} (test : X → Bool) (y : X) (ys : List X) (x : X) → (Contains (filter test ys) x → (Contains ys x) × (test x ≡ true))

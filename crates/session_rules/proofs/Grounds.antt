@@ -5,7 +5,7 @@ use Rattle.std.specs.List.{list_all}
 use Rattle.std.proofs.lemmas.Bool.{both_ways, cases_Bool, cases_eq, cases_lt, and_parts, and_from}
 use Rattle.std.proofs.lemmas.List.{get_or-map, get_or-set_same, get_or-set_other, get_or_past, set_past, length-map, length-replicate, get_or-replicate}
 use Rattle.std.proofs.lemmas.List.Elements.{Contains-push_cases}
-use Rattle.proto_names.specs.Instances.{after_share, after_void, fresh}
+use Rattle.proto_names.specs.Instances.{after_share, fresh}
 use Rattle.proto_names.specs.declared.signature.Signature.{Signature}
 use Rattle.proto_names.specs.declared.signature.Signature.TheVariants.{Pk, Rlk2, Rot, Dec}
 use Rattle.proto_names.specs.declared.instance.Instance.{Instance}
@@ -19,14 +19,14 @@ use Rattle.session_rules.specs.declared.state.CircuitState.TheVariants.{Refused,
 use Rattle.session_rules.specs.declared.moves.Move.{Move}
 use Rattle.session_rules.specs.declared.fixed.Fixed.{Fixed}
 use Rattle.session_rules.specs.States.{State, circuit, plan, no_plan, is_refused, is_given, has_done, opening, none_given, opening_of}
-use Rattle.session_rules.specs.Issues.{keys as needed_keys, next_move, instances_after, moved, least_present}
+use Rattle.session_rules.specs.Issues.{keys as needed_keys, next_move, instances_after, moved, chosen_present}
 use Rattle.session_rules.specs.Deeds.{after_loss, is_last, answered_by, with_input, changed, done}
 use Rattle.session_rules.specs.Steps.{is_given_input, has_keys, judge, step}
 use Rattle.session_rules.specs.Histories.{after, state_after}
 use Rattle.session_rules.specs.Facts.{is_begun, Kept, IsLater, RefusedOnesBeganSo}
 use Rattle.session_rules.specs.Grounds.{CallsGround, HistoriesGround, Grounded, IsWhole}
 use Rattle.session_rules.specs.Allowed.{MayTurn, Allows}
-use Rattle.session_rules.proofs.Stepwise.{done_keeps}
+use Rattle.session_rules.proofs.Stepwise.{void_length, done_keeps}
 use Rattle.session_rules.proofs.Judged.{judged}
 use Rattle.session_rules.proofs.Contained.{contains_nil}
 use Rattle.session_rules.proofs.Marks.{numbered_at}
@@ -199,10 +199,6 @@ turn_grounds f s caller x r c now may g =
 
 -- ---- a move
 
-void_length : (id by : ℕ) (is : List Instance) → length (after_void id by is) ≡ length is
-unfolding after_void
-void_length id by is = length-map is _
-
 asked_needed : (f : Fixed) (circuits : List CircuitState) (i : Instance) → IsNeeded f circuits i.signature → Asked f i
 asked_needed f circuits i (key m) = inl m
 asked_needed f circuits i (decryption c e m evaluated) = inr (c, e)
@@ -218,7 +214,7 @@ unfolding moved instances_after fresh
 move_asks f s m g (gives_up i by none n d lost e) k later =
     asked_as_many f s (moved s m) g k later (ap (λ (z : Move). length (instances_after s.instances z)) e ∙ void_length i.id by s.instances)
 move_asks f s m g (second i none n d all needed e) k later = rw e (asked_pushed f s (fresh s.instances Rlk2 i.set i.id 0) g needed)
-move_asks f s m g (other σ no_second none many needed e) k later = rw e (asked_pushed f s (fresh s.instances σ (least_present f s) 0 0) g needed)
+move_asks f s m g (other σ no_second none many needed e) k later = rw e (asked_pushed f s (fresh s.instances σ (chosen_present f s) 0 0) g needed)
 
 -- ---- any deed, any call, any history
 

@@ -15,16 +15,18 @@ use Rattle.proto_names.specs.declared.signature.Signature.{Signature}
 use Rattle.proto_names.specs.declared.signature.Signature.TheVariants.{Rlk1, Rlk2, Dec}
 use Rattle.proto_names.specs.declared.instance.Instance.{Instance}
 use Rattle.proto_names.specs.declared.instance.Stage.TheVariants.{Opened, Void}
+use Rattle.participants.specs.Loads.{loads_of}
+use Rattle.participants.proofs.Choosing.{chosen_are_members}
 use Rattle.session_rules.specs.declared.moves.Move.{Move}
 use Rattle.session_rules.specs.declared.moves.Move.TheVariants.{GiveUp, Issue}
 use Rattle.session_rules.specs.declared.fixed.Fixed.{Fixed}
 use Rattle.session_rules.specs.States.{State, circuit, is_evaluated, has_live, has_done}
-use Rattle.session_rules.specs.Issues.{keys, enough, condition, may_issue, may_decrypt, next_decryption, next_signature, outdated, rule_1, second_round, least_present, issued_as, rule_2, next_move, instances_after, moved, issue}
+use Rattle.session_rules.specs.Issues.{keys, enough, condition, may_issue, may_decrypt, next_decryption, next_signature, outdated, rule_1, second_round, chosen_present, issued_as, rule_2, next_move, instances_after, moved, issue}
 use Rattle.session_rules.specs.Facts.{IsLive, Kept, IsAtRest}
 use Rattle.session_rules.proofs.Stepwise.{IsBeside, issue_keeps}
 use Rattle.session_rules.proofs.Contained.{contains_map, contains_map_from, find_none, find_some, any_true, any_from, none_from_find}
 use Rattle.session_rules.proofs.Marks.{same_is, same_self, IsDone, done_is, done_from, lives_is, lives_from, complete_lives, one_number}
-use Rattle.session_rules.proofs.PartySets.{none_outside, least_within}
+use Rattle.session_rules.proofs.PartySets.{none_outside}
 use Rattle.session_rules.proofs.MoveKinds.{MoveIs, gives_up, second, other, move_is, IsNeeded, key, decryption, IsNext, next_is, map_none}
 use Rattle.session_rules.proofs.Keeps.{move_kept}
 use Rattle.session_rules.proofs.Weights.{none_done}
@@ -126,7 +128,7 @@ unissued : (f : Fixed) (s : State) (σ : Signature) → IsNext f s σ → issued
 unfolding issued_as
 unissued f s σ n e = at (same σ Rlk2) refl e
   where
-    at : (b : Bool) → same σ Rlk2 ≡ b → (if b then option_map second_round (find (is_done Rlk1) s.instances) else Some (Issue σ (least_present f s) 0)) ≡ None → ⊥
+    at : (b : Bool) → same σ Rlk2 ≡ b → (if b then option_map second_round (find (is_done Rlk1) s.instances) else Some (Issue σ (chosen_present f s) 0)) ≡ None → ⊥
     at true h e = find_done s.instances (sym (condition_second f s σ (same_is σ Rlk2 h)) ∙ n.stands) (map_none second_round (find (is_done Rlk1) s.instances) e)
     at false h e = cc
 
@@ -134,7 +136,7 @@ next_none : (f : Fixed) (s : State) (o : Option Signature) → next_signature f 
 next_none f s None h e = h
 next_none f s (Some σ) h e = absurd (unissued f s σ (next_is f s σ h) e)
 
-or_none : {A : Type 0} (o p : Option A) → option_or o p ≡ None → (o ≡ None) × (p ≡ None)
+pub or_none : {A : Type 0} (o p : Option A) → option_or o p ≡ None → (o ≡ None) × (p ≡ None)
 or_none None p e = (refl, e)
 or_none (Some x) p e = cc
 
@@ -296,9 +298,9 @@ outside_parts : (set there p : ℕ) → is_outside set there p ≡ true → (has
 unfolding is_outside
 outside_parts set there p h = let both = and_parts (has set p) (not (has there p)) h in (both.0, not-true (has there p) both.1)
 
-least_parties : (f : Fixed) (s : State) (p : ℕ) → has (least_present f s).bits p ≡ true → has s.present p ≡ true
-unfolding least_present
-least_parties f s p h = least_within f.threshold s.present p h
+chosen_parties : (f : Fixed) (s : State) (p : ℕ) → has (chosen_present f s).bits p ≡ true → has s.present p ≡ true
+unfolding chosen_present
+chosen_parties f s p h = chosen_are_members f.threshold (loads_of s.instances) s.present p h
 
 move_issuing : (X : Signature → Type 0) (f : Fixed) (s t : State) (m : Move) → Issuing X f s t → Kept f (moved t m) → MoveIs f t m → Issuing X f s (moved t m)
 unfolding moved instances_after fresh
@@ -310,8 +312,8 @@ move_issuing X f s t m g k (second i none n d all needed e) =
     rw e (push_issuing X f s t (fresh t.instances Rlk2 i.set i.id 0) g (rw e at k) refl refl refl
     (g.owes Rlk2 needed none (condition_second f t Rlk2 refl ∙ done_here Rlk1 t.instances i n d)) (λ p h. none_outside i.set.bits t.present p all h))
 move_issuing X f s t m g k (other σ no_second none many needed e) =
-    rw e (push_issuing X f s t (fresh t.instances σ (least_present f t) 0 0) g (rw e at k) refl refl refl
-    (g.owes σ needed none (condition_other f t σ no_second ∙ le-leb f.threshold (count t.present) many)) (λ p h. least_parties f t p h))
+    rw e (push_issuing X f s t (fresh t.instances σ (chosen_present f t) 0 0) g (rw e at k) refl refl refl
+    (g.owes σ needed none (condition_other f t σ no_second ∙ le-leb f.threshold (count t.present) many)) (λ p h. chosen_parties f t p h))
 
 -- where only some signatures may be issued, and no first round is given up or it may be issued anew, only those are issued
 pub issue_stems : (X : Signature → Type 0) (f : Fixed) (s : State) → Kept f s → Owes X f s → (IsFirm s) ⊎ X Rlk1 → Stems X s (issue f s).instances

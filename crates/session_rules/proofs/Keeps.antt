@@ -8,6 +8,8 @@ use Rattle.proto_names.specs.Instances.{after_share, after_void, fresh}
 use Rattle.proto_names.specs.declared.signature.Signature.TheVariants.{Rlk2}
 use Rattle.proto_names.specs.declared.instance.Instance.{Instance}
 use Rattle.proto_names.specs.declared.instance.Stage.TheVariants.{Opened}
+use Rattle.participants.specs.Loads.{loads_of}
+use Rattle.participants.proofs.Choosing.{chosen_are_members, chosen_are_many, chosen_are_parties}
 use Rattle.session_rules.specs.declared.call.Call.{Call}
 use Rattle.session_rules.specs.declared.call.Entry.{Entry}
 use Rattle.session_rules.specs.declared.reply.Reply.{Reply}
@@ -18,7 +20,7 @@ use Rattle.session_rules.specs.declared.state.CircuitState.TheVariants.{Refused,
 use Rattle.session_rules.specs.declared.moves.Move.{Move}
 use Rattle.session_rules.specs.declared.fixed.Fixed.{Fixed}
 use Rattle.session_rules.specs.States.{State, circuit, is_idle, is_refused, opening, none_given, opening_of}
-use Rattle.session_rules.specs.Issues.{next_move, instances_after, moved, least_present, issue}
+use Rattle.session_rules.specs.Issues.{next_move, instances_after, moved, chosen_present, issue}
 use Rattle.session_rules.specs.Deeds.{after_loss, changed, done}
 use Rattle.session_rules.specs.Steps.{judge, step}
 use Rattle.session_rules.specs.Histories.{after, state_after}
@@ -28,7 +30,7 @@ use Rattle.session_rules.proofs.Stepwise.{issue_keeps, done_keeps}
 use Rattle.session_rules.proofs.Judged.{judged}
 use Rattle.session_rules.proofs.Contained.{contains_nil}
 use Rattle.session_rules.proofs.Marks.{instance_within}
-use Rattle.session_rules.proofs.PartySets.{has_party, with_keeps, none_outside, least_is, least_within, least_count}
+use Rattle.session_rules.proofs.PartySets.{has_party, with_keeps, none_outside}
 use Rattle.session_rules.proofs.MoveKinds.{MoveIs, gives_up, second, other, move_is}
 use Rattle.session_rules.proofs.Needs.{needed_evaluated}
 use Rattle.session_rules.proofs.Readiness.{found_ready, ready_idle}
@@ -154,22 +156,22 @@ turn_next f s c now was k = (
 -- ---- a move
 
 pub move_kept : (f : Fixed) (s : State) (m : Move) → Kept f s → MoveIs f s m → Kept f (moved s m)
-unfolding moved instances_after fresh least_present
+unfolding moved instances_after fresh chosen_present
 move_kept f s m k (gives_up i by none n d lost e) = rw e (give_up_kept f s i by k n d none)
 move_kept f s m k (second i none n d all needed e) = rw e
     (issue_kept f s Rlk2 i.set i.id 0 k none (k.sound i n).set (k.sound i n).parties
     (λ p h. none_outside i.set.bits s.present p all h) (λ c its. cc)
     (λ _. record { first = i; issued = n; signature = d.signature; complete = d.complete; id = refl; set = refl }))
 move_kept f s m k (other σ no_second none many needed e) = rw e
-    (issue_kept f s σ (least_present f s) 0 0 k none (least_is f.threshold s.present).small (least_count f.threshold s.present many)
-    (λ p h. least_within f.threshold s.present p h) (λ c its. needed_evaluated f s.circuits σ c needed its)
+    (issue_kept f s σ (chosen_present f s) 0 0 k none (chosen_are_parties f.threshold (loads_of s.instances) s.present) (chosen_are_many f.threshold (loads_of s.instances) s.present many)
+    (λ p h. chosen_are_members f.threshold (loads_of s.instances) s.present p h) (λ c its. needed_evaluated f s.circuits σ c needed its)
     (λ its. absurd (no_second its)))
 
 move_later : (f : Fixed) (s : State) (m : Move) → Kept f s → MoveIs f s m → AreLater s.instances (instances_after s.instances m)
 unfolding instances_after after_void
 move_later f s m k (gives_up i by none n d lost e) = rw e (map_later _ s.instances (give_up_later f s i by k n d))
 move_later f s m k (second i none n d all needed e) = rw e (push_later s.instances (fresh s.instances Rlk2 i.set i.id 0))
-move_later f s m k (other σ no_second none many needed e) = rw e (push_later s.instances (fresh s.instances σ (least_present f s) 0 0))
+move_later f s m k (other σ no_second none many needed e) = rw e (push_later s.instances (fresh s.instances σ (chosen_present f s) 0 0))
 
 pub move_next : (f : Fixed) (s : State) (m : Move) → Kept f s → next_move f s ≡ Some m → Next f s (moved s m)
 unfolding moved

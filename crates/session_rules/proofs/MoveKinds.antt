@@ -17,7 +17,7 @@ use Rattle.session_rules.specs.declared.moves.Move.{Move}
 use Rattle.session_rules.specs.declared.moves.Move.TheVariants.{GiveUp, Issue}
 use Rattle.session_rules.specs.declared.fixed.Fixed.{Fixed}
 use Rattle.session_rules.specs.States.{State, circuit, is_evaluated, has_live, has_done}
-use Rattle.session_rules.specs.Issues.{keys, enough, condition, may_issue, may_decrypt, next_decryption, next_signature, outdated, rule_1, second_round, least_present, issued_as, rule_2, next_move}
+use Rattle.session_rules.specs.Issues.{keys, enough, condition, may_issue, may_decrypt, next_decryption, next_signature, outdated, rule_1, second_round, chosen_present, issued_as, rule_2, next_move}
 use Rattle.session_rules.proofs.Contained.{find_some}
 use Rattle.session_rules.proofs.Marks.{same_is, same_self, IsDone, done_is}
 
@@ -103,7 +103,7 @@ next_is f s σ e = elim (or_some (find (may_issue f s) (keys f)) (next_decryptio
 pub data MoveIs (f : Fixed) (s : State) (m : Move) : Type 0 where
   gives_up : (i : Instance) (by : ℕ) → has_live Rlk2 s.instances ≡ false → Contains s.instances i → IsDone Rlk1 i → is_outside i.set.bits s.present by ≡ true → m ≡ GiveUp i.id by → MoveIs f s m
   second : (i : Instance) → has_live Rlk2 s.instances ≡ false → Contains s.instances i → IsDone Rlk1 i → first_outside i.set.bits s.present ≡ None → IsNeeded f s.circuits Rlk2 → m ≡ Issue Rlk2 i.set i.id → MoveIs f s m
-  other : (σ : Signature) → σ ≢ Rlk2 → has_live σ s.instances ≡ false → f.threshold ≤ count s.present → IsNeeded f s.circuits σ → m ≡ Issue σ (least_present f s) 0 → MoveIs f s m
+  other : (σ : Signature) → σ ≢ Rlk2 → has_live σ s.instances ≡ false → f.threshold ≤ count s.present → IsNeeded f s.circuits σ → m ≡ Issue σ (chosen_present f s) 0 → MoveIs f s m
 
 rule_1_is : (f : Fixed) (s : State) (m : Move) → rule_1 s ≡ Some m → MoveIs f s m
 unfolding rule_1 outdated first_outside
@@ -132,7 +132,7 @@ unfolding issued_as condition enough
 issued_is f s σ m idle n e = at (same σ Rlk2) refl (n.stands) e
   where
     at : (b : Bool) → same σ Rlk2 ≡ b → cond b (has_done Rlk1 s.instances) (nat_le f.threshold (count s.present)) ≡ true
-        → (if b then option_map second_round (find (is_done Rlk1) s.instances) else Some (Issue σ (least_present f s) 0)) ≡ Some m → MoveIs f s m
+        → (if b then option_map second_round (find (is_done Rlk1) s.instances) else Some (Issue σ (chosen_present f s) 0)) ≡ Some m → MoveIs f s m
     at true h stands e =
         let second : σ ≡ Rlk2 = same_is σ Rlk2 h in
         issued_second f s m idle (subst (λ (τ : Signature). has_live τ s.instances ≡ false) second n.none) (subst (λ (τ : Signature). IsNeeded f s.circuits τ) second n.needed) e

@@ -1,8 +1,15 @@
 -- The moves that are left, while the rules of issue are applied one after the other. No rule looks at inputs.
-use Rattle.std.proofs.Common.{◌≡◌, ℕ, zero, suc, ◌+◌, ◌-◌, ◌<◌, ◌≤◌, Bool, List, [], ◌∷◌, ◌++◌, length, refl, sym, ap, subst, ◌∙◌, arith}
+use Rattle.std.proofs.Common.{◌≡◌, All, slice_index_or, ℕ, zero, suc, ◌+◌, ◌-◌, ◌<◌, ◌≤◌, Bool, List, [], ◌∷◌, ◌++◌, length, refl, sym, ap, subst, ◌∙◌, arith}
 use Rattle.std.specs.Prelude.{Option, Some, None}
 use Rattle.std.proofs.lemmas.List.{append-nil, append_assoc}
+use Rattle.std.proofs.lemmas.List.Elements.{All-get_or}
+use Rattle.proto_names.specs.Instances.{fresh}
+use Rattle.proto_names.specs.declared.signature.Signature.{Signature}
+use Rattle.proto_names.specs.declared.sets.PartySet.{PartySet}
 use Rattle.proto_names.specs.declared.instance.Instance.{Instance}
+use Rattle.participants.specs.Loads.{loads_of, raised}
+use Rattle.participants.specs.Laws.{IsAtMost}
+use Rattle.participants.proofs.Raising.{loads_rise, loads_are_few}
 use Rattle.session_rules.specs.declared.fixed.Fixed.{Fixed}
 use Rattle.session_rules.specs.declared.state.CircuitState.{CircuitState}
 use Rattle.session_rules.specs.declared.moves.Move.{Move}
@@ -89,3 +96,16 @@ Planned-next f p cs first n done is made m so l e =
       few = omega (arith, longer is m, so.few);
       whole = append_assoc made (m ∷ []) (moves_in (n - (done + 1)) f (seen p (instances_after is m) [] cs)) ∙ ap (λ (z : List Move). made ++ z) (sym goes) ∙ v;
     }
+
+-- ---- the loads of the instances that there are
+
+pub loads_at_most : (is : List Instance) (loads : List ℕ) (most : ℕ) → length is ≤ most → loads ≡ loads_of is
+    → (k d : ℕ) → k < length loads → IsAtMost most (slice_index_or loads k d)
+loads_at_most is loads most l same k d m =
+    let all : All (IsAtMost most) loads = rw same (loads_are_few is most l) in
+    All-get_or (IsAtMost most) loads k d m all
+
+-- with an instance more they are those that were raised
+pub loads_made : (is : List Instance) (loads : List ℕ) (σ : Signature) (set : PartySet) (round1 : ℕ) → loads ≡ loads_of is
+    → raised set.bits loads ≡ loads_of (is ++ fresh is σ set round1 0 ∷ [])
+loads_made is loads σ set round1 same = ap (raised set.bits) same ∙ sym (loads_rise is σ set round1 0)

@@ -19,9 +19,10 @@ use Rattle.session_rules.specs.declared.deed.Deed.{Deed}
 use Rattle.session_rules.specs.declared.deed.Deed.TheVariants.{Nothing, Joins, Loses, Counts, Gives, Turns}
 use Rattle.session_rules.specs.declared.state.CircuitState.{CircuitState}
 use Rattle.session_rules.specs.declared.state.CircuitState.TheVariants.{Answered}
+use Rattle.session_rules.specs.declared.moves.Move.TheVariants.{Issue}
 use Rattle.session_rules.specs.declared.fixed.Fixed.{Fixed}
 use Rattle.session_rules.specs.States.{State, circuit, opening, is_evaluated, is_answered, has_live, has_done}
-use Rattle.session_rules.specs.Issues.{keys, enough, condition, may_issue, may_decrypt, next_decryption, next_signature, outdated, rule_1, least_present, issued_as, rule_2, next_move, issue}
+use Rattle.session_rules.specs.Issues.{keys, enough, condition, may_issue, may_decrypt, next_decryption, next_signature, outdated, rule_1, second_round, chosen_present, issued_as, rule_2, next_move, issue}
 use Rattle.session_rules.specs.Deeds.{is_last, changed, leads_on, done}
 use Rattle.session_rules.specs.Steps.{judge, step}
 use Rattle.session_rules.specs.Histories.{after}
@@ -33,6 +34,7 @@ use Rattle.session_rules.proofs.Judged.{judged}
 use Rattle.session_rules.proofs.Later.{circuit_set}
 use Rattle.session_rules.proofs.Keeps.{Waits, waits, turned, deed_next, step_next, opening_kept}
 use Rattle.session_rules.proofs.Weights.{issue_ends}
+use Rattle.session_rules.proofs.Issued.{or_none}
 
 -- ---- searches by tests that agree
 
@@ -57,6 +59,10 @@ find_map test g [] h same_ = refl
 find_map test g (x ∷ xs) h same_ =
     rw (h x (contains_here x xs)) (found_same (test x) (g x) x (find test (map g xs)) (find test xs) (same_ x (contains_here x xs))
     (find_map test g xs (λ y m. h y (contains_there x xs y m)) (λ y m. same_ y (contains_there x xs y m))))
+
+none_then : {A B : Type 0} (g h : A → Option B) (o : Option A) → ((x : A) → g x ≡ None → h x ≡ None) → option_and_then g o ≡ None → option_and_then h o ≡ None
+none_then g h None n e = refl
+none_then g h (Some x) n e = n x e
 
 then_agree : {A B : Type 0} (g h : A → Option B) (o p : Option A) → o ≡ p → ((x : A) → g x ≡ h x) → option_and_then g o ≡ option_and_then h p
 then_agree g h None None e a = refl
@@ -89,9 +95,15 @@ signature_alike f s t a =
     rw (a.many) (ap₂ option_or (find_agree (may_issue f t) (may_issue f s) (keys f) (λ σ. may_alike f s t σ a))
     (ap (option_map Dec) (find_agree (may_decrypt f t) (may_decrypt f s) (range_with_len 0 (length s.circuits)) (λ c. decrypt_alike f s t c a))))
 
-issued_alike : (f : Fixed) (s t : State) (σ : Signature) → IsAlike s t → issued_as f t σ ≡ issued_as f s σ
-unfolding issued_as least_present
-issued_alike f s t σ a = rw (a.first, a.present) refl
+-- whether an instance is issued; loads may differ, and with them its set
+issued_alike : (f : Fixed) (s t : State) (σ : Signature) → IsAlike s t → issued_as f s σ ≡ None → issued_as f t σ ≡ None
+unfolding issued_as
+issued_alike f s t σ a = rw (a.first) (at (same σ Rlk2))
+  where
+    at : (b : Bool) → (if b then option_map second_round (find (is_done Rlk1) s.instances) else Some (Issue σ (chosen_present f s) 0)) ≡ None
+        → (if b then option_map second_round (find (is_done Rlk1) s.instances) else Some (Issue σ (chosen_present f t) 0)) ≡ None
+    at true e = e
+    at false e = cc
 
 outdated_alike : (s t : State) (i : Instance) → IsAlike s t → outdated t i ≡ outdated s i
 unfolding outdated
@@ -102,13 +114,16 @@ unfolding rule_1
 rule_1_alike s t a = rw (a.lives_ Rlk2) (ap (λ (z : Option _). if has_live Rlk2 s.instances then None else z)
     (then_agree (outdated t) (outdated s) (find (is_done Rlk1) t.instances) (find (is_done Rlk1) s.instances) a.first (λ i. outdated_alike s t i a)))
 
-rule_2_alike : (f : Fixed) (s t : State) → IsAlike s t → rule_2 f t ≡ rule_2 f s
+rule_2_alike : (f : Fixed) (s t : State) → IsAlike s t → rule_2 f s ≡ None → rule_2 f t ≡ None
 unfolding rule_2
-rule_2_alike f s t a = then_agree (issued_as f t) (issued_as f s) (next_signature f t) (next_signature f s) (signature_alike f s t a) (λ σ. issued_alike f s t σ a)
+rule_2_alike f s t a e = rw (signature_alike f s t a) (none_then (issued_as f s) (issued_as f t) (next_signature f s) (λ σ. issued_alike f s t σ a) e)
 
-next_alike : (f : Fixed) (s t : State) → IsAlike s t → next_move f t ≡ next_move f s
+-- where no rule applies to one, none applies to the other
+next_alike : (f : Fixed) (s t : State) → IsAlike s t → IsAtRest f s → IsAtRest f t
 unfolding next_move
-next_alike f s t a = ap₂ option_or (rule_1_alike s t a) (rule_2_alike f s t a)
+next_alike f s t a e =
+    let none = or_none (rule_1 s) (rule_2 f s) e in
+    rw (rule_1_alike s t a, none.0) (rule_2_alike f s t a none.1)
 
 -- ---- a share that is not the last
 
@@ -172,16 +187,16 @@ give_alike : (s : State) (c k : ℕ) → IsAlike s (changed (Gives c k) s)
 unfolding changed
 give_alike s c k = record { present = refl; lives_ = λ σ. refl; done_ = refl; first = refl; many = refl; evaluated = λ d. refl }
 
--- where the rules aren't applied, they look at nothing that has changed
-quiet : (f : Fixed) (s : State) (caller : ℕ) (c : Call) (r : Reply) (d : Deed) → Kept f s → Allows f s caller c r d → leads_on d ≡ false → next_move f (changed d s) ≡ next_move f s
+-- where the rules aren't applied, what has changed lets none of them apply
+quiet : (f : Fixed) (s : State) (caller : ℕ) (c : Call) (r : Reply) (d : Deed) → Kept f s → Allows f s caller c r d → leads_on d ≡ false → IsAtRest f s → IsAtRest f (changed d s)
 unfolding changed
-quiet f s caller c r Nothing k a e = refl
-quiet f s caller c r (Joins p) k a e = cc
-quiet f s caller c r (Loses p) k a e = cc
-quiet f s caller c r (Counts i p) k a e = next_alike f s (changed (Counts i p) s) (count_alike f s i p k (waits f s c r i p k a) e)
-quiet f s caller c r (Gives d j) k a e = next_alike f s (changed (Gives d j) s) (give_alike s d j)
-quiet f s caller c r (Turns d now) k a e =
-    next_alike f s (changed (Turns d now) s) (turn_alike s d now (or_parts (is_evaluated (circuit s.circuits d)) (is_answered (circuit s.circuits d)) (turned f s caller c r d now a).unsettled).0 e)
+quiet f s caller c r Nothing k a e rest = rest
+quiet f s caller c r (Joins p) k a e rest = cc
+quiet f s caller c r (Loses p) k a e rest = cc
+quiet f s caller c r (Counts i p) k a e rest = next_alike f s (changed (Counts i p) s) (count_alike f s i p k (waits f s c r i p k a) e) rest
+quiet f s caller c r (Gives d j) k a e rest = next_alike f s (changed (Gives d j) s) (give_alike s d j) rest
+quiet f s caller c r (Turns d now) k a e rest =
+    next_alike f s (changed (Turns d now) s) (turn_alike s d now (or_parts (is_evaluated (circuit s.circuits d)) (is_answered (circuit s.circuits d)) (turned f s caller c r d now a).unsettled).0 e) rest
 
 deed_rests : (f : Fixed) (s : State) (caller : ℕ) (c : Call) (r : Reply) (d : Deed) → Kept f s → Allows f s caller c r d → IsAtRest f s → IsAtRest f (done f d s)
 unfolding done
@@ -189,7 +204,7 @@ deed_rests f s caller c r d k a rest = at (leads_on d) refl
   where
     at : (b : Bool) → leads_on d ≡ b → IsAtRest f (if b then issue f (changed d s) else changed d s)
     at true e = issue_ends f (changed d s) (deed_next f s caller c r d k a).0
-    at false e = quiet f s caller c r d k a e ∙ rest
+    at false e = quiet f s caller c r d k a e rest
 
 pub calls_leave_rest : CallsLeaveRest
 unfolding step

@@ -7,7 +7,7 @@ use Rattle.session_rules.specs.declared.fixed.Fixed.{Fixed}
 use Rattle.session_rules.specs.declared.state.CircuitState.{CircuitState}
 use Rattle.session_rules.specs.States.{State, seen, circuit, is_evaluated}
 use Rattle.session_rules.specs.Steps.{join, deliver, input, finish}
-use Rattle.session_rules.specs.Issues.{enough, condition, may_issue, may_decrypt, next_decryption, next_signature, outdated, rule_1, least_present, issued_as, rule_2, next_move}
+use Rattle.session_rules.specs.Issues.{enough, condition, may_issue, may_decrypt, next_decryption, next_signature, outdated, rule_1, chosen_present, issued_as, rule_2, next_move}
 
 pub enough_seen : (f : Fixed) (p : ℕ) (is : List Instance) → enough f (seen p is [] []) ≡ enough f (seen p [] [] [])
 unfolding enough
@@ -29,23 +29,23 @@ pub outdated_seen : (p : ℕ) (is : List Instance) (i : Instance) → outdated (
 unfolding outdated
 outdated_seen p is i = refl
 
-pub least_seen : (f : Fixed) (p : ℕ) (is : List Instance) → least_present f (seen p is [] []) ≡ least_present f (seen p [] [] [])
-unfolding least_present
-least_seen f p is = refl
+pub chosen_seen : (f : Fixed) (p : ℕ) (is : List Instance) (cs : List CircuitState) → chosen_present f (seen p is [] cs) ≡ chosen_present f (seen p is [] [])
+unfolding chosen_present
+chosen_seen f p is cs = refl
 
 pub issued_seen : (f : Fixed) (p : ℕ) (is : List Instance) (cs : List CircuitState) (σ : Signature) → issued_as f (seen p is [] cs) σ ≡ issued_as f (seen p is [] []) σ
-unfolding issued_as least_present
+unfolding issued_as chosen_present
 issued_seen f p is cs σ = refl
 
 pub first_seen : (p : ℕ) (is : List Instance) (cs : List CircuitState) → rule_1 (seen p is [] cs) ≡ rule_1 (seen p is [] [])
 unfolding rule_1 outdated
 first_seen p is cs = refl
 
-pub ruleset looks = (enough_seen, may_seen, keys_seen, outdated_seen, least_seen, issued_seen, first_seen)
+pub ruleset looks = (enough_seen, may_seen, keys_seen, outdated_seen, chosen_seen, issued_seen, first_seen)
 
 -- and all of it together
 pub next_seen : (f : Fixed) (p : ℕ) (is : List Instance) (given : List (List Bool)) (cs : List CircuitState) → next_move f (seen p is given cs) ≡ next_move f (seen p is [] cs)
-unfolding next_move rule_1 rule_2 outdated next_signature next_decryption may_decrypt may_issue condition enough issued_as least_present
+unfolding next_move rule_1 rule_2 outdated next_signature next_decryption may_decrypt may_issue condition enough issued_as chosen_present
 next_seen f p is given cs = refl
 
 -- ---- what calls look at

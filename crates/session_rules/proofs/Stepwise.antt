@@ -54,10 +54,14 @@ beside_is s t b = cc_state t.present t.given t.circuits b.present b.given b.circ
 
 -- ---- how many there are
 
+pub void_length : (id by : ℕ) (is : List Instance) → length (after_void id by is) ≡ length is
+unfolding after_void
+void_length id by is = length-map is (given_up id by)
+
 -- a move adds one at most
 pub longer : (is : List Instance) (m : Move) → length (instances_after is m) ≤ length is + 1
-unfolding instances_after after_void
-longer is (GiveUp id by) = omega (arith, length-map is (given_up id by))
+unfolding instances_after
+longer is (GiveUp id by) = omega (arith, void_length id by is)
 longer is (Issue σ set round1) = omega (arith, length-append is (fresh is σ set round1 0 ∷ []))
 
 grown_then : (f : Fixed) (n : ℕ) → ((t : State) → length (issued_in n f t).instances ≤ length t.instances + n) → (s : State) → (o : Option Move) → length (elim o as (λ x. State) [

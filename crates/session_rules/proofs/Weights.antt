@@ -17,7 +17,7 @@ use Rattle.session_rules.specs.declared.state.CircuitState.{CircuitState}
 use Rattle.session_rules.specs.declared.moves.Move.{Move}
 use Rattle.session_rules.specs.declared.fixed.Fixed.{Fixed}
 use Rattle.session_rules.specs.States.{State, has_live, has_done}
-use Rattle.session_rules.specs.Issues.{keys, wants_key, wants_relin, next_move, instances_after, moved, least_present, moves_in, moves, issued_in, most_moves, issue}
+use Rattle.session_rules.specs.Issues.{keys, wants_key, wants_relin, next_move, instances_after, moved, chosen_present, moves_in, moves, issued_in, most_moves, issue}
 use Rattle.session_rules.specs.Facts.{IsLive, Kept, IssueEnds, IssueIsItsMoves, MovesAreFew}
 use Rattle.session_rules.proofs.Contained.{contains_nil, contains_cases, contains_map, contains_map_from, any_false, any_from, any_none, any_true, contains_here, contains_there}
 use Rattle.session_rules.proofs.Marks.{lives_is, IsDone, done_is, done_from, same_self, one_number, lives_from, complete_lives, opened_lives}
@@ -260,7 +260,7 @@ lowers : (f : Fixed) (s : State) (m : Move) → Kept f s → MoveIs f s m → we
 unfolding moved instances_after fresh
 lowers f s m k (gives_up i by none n d lost e) = rw e (void_lowers f s i by k n d)
 lowers f s m k (second i none n d all needed e) = rw e (push_lowers f s.circuits s.instances (fresh s.instances Rlk2 i.set i.id 0) none refl (needed_in f s.circuits Rlk2 needed))
-lowers f s m k (other σ no_second none many needed e) = rw e (push_lowers f s.circuits s.instances (fresh s.instances σ (least_present f s) 0 0) none refl (needed_in f s.circuits σ needed))
+lowers f s m k (other σ no_second none many needed e) = rw e (push_lowers f s.circuits s.instances (fresh s.instances σ (chosen_present f s) 0 0) none refl (needed_in f s.circuits σ needed))
 
 -- ---- issuing ends
 

@@ -5,11 +5,12 @@ use Rattle.std.specs.Option.{option_map, option_or, option_and_then}
 use Rattle.share_spec.specs.Sets.{count}
 use Rattle.proto_names.specs.Names.{same}
 use Rattle.proto_names.specs.Instances.{is_done, with_fresh, after_void}
-use Rattle.proto_names.specs.Groups.{least_of, first_outside}
+use Rattle.proto_names.specs.Groups.{first_outside}
 use Rattle.proto_names.specs.declared.signature.Signature.{Signature}
 use Rattle.proto_names.specs.declared.signature.Signature.TheVariants.{Pk, Rlk1, Rlk2, Rot, Dec}
 use Rattle.proto_names.specs.declared.sets.PartySet.{PartySet}
 use Rattle.proto_names.specs.declared.instance.Instance.{Instance}
+use Rattle.participants.specs.Loads.{loads_of, chosen}
 use Rattle.session_rules.specs.declared.moves.Move.{Move}
 use Rattle.session_rules.specs.declared.moves.Move.TheVariants.{GiveUp, Issue}
 use Rattle.session_rules.specs.declared.fixed.Plan.{Plan}
@@ -68,18 +69,19 @@ outdated s i = option_map (GiveUp i.id) (first_outside i.set.bits s.present)
 unfoldable pub rule_1 : State → Option Move
 rule_1 s = if has_live Rlk2 s.instances then None else option_and_then (outdated s) (find (is_done Rlk1) s.instances)
 
--- rule 2: the next signature is issued. A second round has the set of its first, all else the T least
--- parties that are present
+-- rule 2: the next signature is issued. A second round has the set of its first, all else the first T parties that
+-- are present: by rising load, and then by rising number. The load of a party is the number of opened instances that
+-- wait for its share, at this move: so instances that one call issues count for the next ones
 abbrev pub second_round : Instance → Move
 second_round i = Issue Rlk2 i.set i.id
 
-unfoldable pub least_present : Fixed → State → PartySet
-least_present f s = record { bits = least_of (threshold_at f (group_now s)) s.present }
+unfoldable pub chosen_present : Fixed → State → PartySet
+chosen_present f s = record { bits = chosen (threshold_at f (group_now s)) (loads_of s.instances) s.present }
 
 unfoldable pub issued_as : Fixed → State → Signature → Option Move
 issued_as f s σ =
     if same σ Rlk2 then option_map second_round (find (is_done Rlk1) s.instances)
-    else Some (Issue σ (least_present f s) 0)
+    else Some (Issue σ (chosen_present f s) 0)
 
 unfoldable pub rule_2 : Fixed → State → Option Move
 rule_2 f s = option_and_then (issued_as f s) (next_signature f s)

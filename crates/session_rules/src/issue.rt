@@ -1,12 +1,14 @@
 //! The rules of issue, over what they look at: the fixed data, the parties that are present, the
-//! instances, and the circuits.
+//! instances with the loads that they make, and the circuits.
 ghost use Rattle.std.specs.Prelude.{◌≡◌, ◌<◌, ◌≤◌, [], length};
 ghost use Rattle.std.specs.List.{find, range_with_len};
 ghost use Rattle.proto_names.specs.Instances.{lives, is_done};
+ghost use Rattle.participants.specs.Loads.{loads_of};
 ghost use Rattle.session_rules.specs.States.{seen, circuit, is_evaluated, has_live, has_done};
-ghost use Rattle.session_rules.specs.Issues.{keys, enough, condition, may_issue, may_decrypt, next_decryption, next_signature, outdated, rule_1, least_present, issued_as, rule_2, next_move};
+ghost use Rattle.session_rules.specs.Issues.{keys, enough, condition, may_issue, may_decrypt, next_decryption, next_signature, outdated, rule_1, issued_as, rule_2, next_move};
 
 use crate::{CircuitState, Fixed, Move};
+use participants::{Loads, choose};
 use proto_names::{Instance, PartySet, Signature, Stage};
 
 /// Whether an instance has a signature, and is opened or complete.
@@ -198,22 +200,17 @@ fn rule_1(present: &PartySet, instances: &[Instance]) -> Option<Move>
     }
 }
 
-/// The T least parties that are present, or all where there are fewer.
-#[tactic(auto, unfolding(crate::specs::Issues::least_present))]
-fn least_present(fixed: &Fixed, present: &PartySet) -> PartySet
-    ensures { result ≡ least_present fixed.now (seen present.now.bits [] [] []) }
-{
-    present.least_or_all(fixed.threshold)
-}
-
-/// The move that issues an instance of a signature.
-#[tactic(auto, using(crate::proofs::Seen::looks), unfolding(crate::specs::Issues::issued_as))]
+/// The move that issues an instance of a signature: a second round for the parties of its first, all else for
+/// the first T parties that are present, by rising load and then by rising number.
+#[tactic(auto, unfolding(crate::specs::Issues::issued_as, crate::specs::Issues::chosen_present))]
 fn issued_as(
     fixed: &Fixed,
     present: &PartySet,
     instances: &[Instance],
+    loads: &Loads,
     signature: Signature,
 ) -> Option<Move>
+    requires loads { loads.now ≡ loads_of instances.now }
     ensures { result ≡ issued_as fixed.now (seen present.now.bits instances.now [] []) signature }
 {
     if signature.is(Signature::Rlk2) {
@@ -225,7 +222,7 @@ fn issued_as(
     }
     Some(Move::Issue {
         signature,
-        set: least_present(fixed, present),
+        set: choose(loads, *present, fixed.threshold),
         round1: 0,
     })
 }
@@ -237,14 +234,16 @@ fn rule_2(
     needed: &[Signature],
     present: &PartySet,
     instances: &[Instance],
+    loads: &Loads,
     circuits: &[CircuitState],
 ) -> Option<Move>
     requires keys { needed.now ≡ keys fixed.now }
     requires few { length circuits.now ≤ 64 }
+    requires loads { loads.now ≡ loads_of instances.now }
     ensures { result ≡ rule_2 fixed.now (seen present.now.bits instances.now [] circuits.now) }
 {
     match next_signature(fixed, needed, present, instances, circuits) {
-        Some(signature) => issued_as(fixed, present, instances, signature),
+        Some(signature) => issued_as(fixed, present, instances, loads, signature),
         None => None,
     }
 }
@@ -256,14 +255,16 @@ pub(crate) fn next_move(
     needed: &[Signature],
     present: &PartySet,
     instances: &[Instance],
+    loads: &Loads,
     circuits: &[CircuitState],
 ) -> Option<Move>
     requires keys { needed.now ≡ keys fixed.now }
     requires few { length circuits.now ≤ 64 }
+    requires loads { loads.now ≡ loads_of instances.now }
     ensures { result ≡ next_move fixed.now (seen present.now.bits instances.now [] circuits.now) }
 {
     match rule_1(present, instances) {
         Some(given_up) => Some(given_up),
-        None => rule_2(fixed, needed, present, instances, circuits),
+        None => rule_2(fixed, needed, present, instances, loads, circuits),
     }
 }

@@ -1,11 +1,13 @@
 //! The moves that the rules of issue make, found out on a copy of the instances.
-ghost use Rattle.std.specs.Prelude.{◌≡◌, ◌+◌, ◌^◌, ◌<◌, ◌≤◌, [], length, IfOk};
+ghost use Rattle.std.specs.Prelude.{◌≡◌, ◌+◌, ◌^◌, ◌<◌, ◌≤◌, [], length, IfOk, OnOk};
 ghost use Rattle.proto_names.specs.Instances.{given_up, after_void};
+ghost use Rattle.participants.specs.Loads.{loads_of};
 ghost use Rattle.session_rules.specs.States.{seen};
 ghost use Rattle.session_rules.specs.Issues.{keys, instances_after, moves};
 
 use crate::issue::next_move;
 use crate::{CircuitState, Fixed, Move};
+use participants::Loads;
 use proto_names::{Instance, PartySet, Signature, fresh, given_up};
 use std::alloc::{AllocError, Global};
 
@@ -36,29 +38,36 @@ fn after_void(
         .collect(alloc)
 }
 
-/// The instances after a move.
+/// Makes a move: the instances are those after it, and the loads are theirs. Those of the parties of a new
+/// instance are raised; where one is given up, which is rare, they are counted anew.
 #[tactic(auto, unfolding(crate::specs::Issues::instances_after))]
-fn instances_after(
+fn make(
     alloc: Global,
-    instances: Vec<Instance>,
-    made: Move,
-) -> Result<Vec<Instance>, AllocError>
-    requires { length instances.items < 2 ^ 30 }
-    ensures { IfOk result (λ v. v.items ≡ instances_after instances.items made) }
+    instances: &mut Vec<Instance>,
+    loads: &mut Loads,
+    next: Move,
+) -> Result<(), AllocError>
+    requires few { length instances.old.items < 2 ^ 30 }
+    requires loads { loads.old ≡ loads_of instances.old.items }
+    ensures made { OnOk result (instances.new.items ≡ instances_after instances.old.items next) }
+    ensures loads { OnOk result (loads.new ≡ loads_of instances.new.items) }
 {
-    match made {
-        Move::GiveUp { id, by } => after_void(alloc, id, by, instances.as_slice()),
+    match next {
+        Move::GiveUp { id, by } => {
+            *instances = after_void(alloc, id, by, instances.as_slice())?;
+            *loads = Loads::of(instances.as_slice());
+        }
         Move::Issue {
             signature,
             set,
             round1,
         } => {
-            let next = fresh(instances.as_slice(), signature, set, round1, 0);
-            let mut instances = instances;
-            instances.push(next)?;
-            Ok(instances)
+            let new = fresh(instances.as_slice(), signature, set, round1, 0);
+            instances.push(new)?;
+            loads.raise(set);
         }
     }
+    Ok(())
 }
 
 /// The moves that the rules of issue make until neither applies, in their order; nothing is changed.
@@ -78,12 +87,20 @@ pub fn planned_moves(
     ensures { IfOk result (λ v. v.items ≡ moves fixed.now (seen present.now.bits instances.items [] circuits.now)) }
 {
     let mut instances = instances;
+    let mut loads = Loads::of(instances.as_slice());
     let mut made = Vec::new(alloc);
     'steps: for _ in 0..needed.len() + circuits.len() + 2 {
-        match next_move(fixed, needed, present, instances.as_slice(), circuits) {
+        match next_move(
+            fixed,
+            needed,
+            present,
+            instances.as_slice(),
+            &loads,
+            circuits,
+        ) {
             None => return Ok(made),
             Some(next) => {
-                instances = instances_after(alloc, instances, next)?;
+                make(alloc, &mut instances, &mut loads, next)?;
                 made.push(next)?;
             }
         }

@@ -19,7 +19,7 @@ use Rattle.session_rules.specs.declared.moves.Move.{Move}
 use Rattle.session_rules.specs.declared.moves.Move.TheVariants.{GiveUp, Issue}
 use Rattle.session_rules.specs.declared.fixed.Fixed.{Fixed}
 use Rattle.session_rules.specs.States.{State, seen, circuit, has_done}
-use Rattle.session_rules.specs.Issues.{keys, next_move, least_present, instances_after, moved, moves_in, moves, most_moves}
+use Rattle.session_rules.specs.Issues.{keys, next_move, chosen_present, instances_after, moved, moves_in, moves, most_moves}
 use Rattle.session_rules.proofs.Contained.{contains_map_from}
 use Rattle.session_rules.proofs.MoveKinds.{MoveIs, gives_up, second, other, move_is, IsNeeded, key, decryption}
 use Rattle.session_rules.proofs.Issued.{done_here, done_one}
@@ -43,7 +43,7 @@ move_due : (f : Fixed) (s : State) (m : Move) → All IsPk (keys f) → has_done
 move_due f s m only none (gives_up i by unused within done out e) = absurd (both_ways (has_done Rlk1 s.instances) none (done_here Rlk1 s.instances i within done))
 move_due f s m only none (second i unused within done all needed e) = absurd (both_ways (has_done Rlk1 s.instances) none (done_here Rlk1 s.instances i within done))
 move_due f s m only none (other σ first unused many needed e) =
-    subst (λ (x : Move). IsDue s.circuits x) (sym e) (due_issue s.circuits σ (least_present f s) f only needed)
+    subst (λ (x : Move). IsDue s.circuits x) (sym e) (due_issue s.circuits σ (chosen_present f s) f only needed)
 
 -- a new instance is not complete
 none_fresh : (is : List Instance) (σ : Signature) (set : PartySet) (round1 group : ℕ) → is_done Rlk1 (fresh is σ set round1 group) ≡ false

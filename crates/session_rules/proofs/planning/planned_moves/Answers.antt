@@ -14,7 +14,7 @@ returns-in-None c =
     let first = c.args.instances.items in let is = c.steps.instances.items in
     let last : next_move f (seen p is [] cs) ≡ None = cc in
     let n : length c.args.needed.now + length cs + 2 ≡ most_moves f = cc in
-    let e = Planned-ends f p cs first (length c.args.needed.now + length cs + 2) c.steps.counter is c.steps.made.items c.steps.invariant last in
+    let e = Planned-ends f p cs first (length c.args.needed.now + length cs + 2) c.steps.counter is c.steps.made.items c.steps.invariant.moves last in
     rw n at e
 
 pub steps-preserved : goal.steps-preserved
@@ -23,10 +23,10 @@ steps-preserved c =
     let first = c.args.instances.items in let is = c.steps.instances.items in
     let m = c.in-Some.next in
     let next : next_move f (seen p is [] cs) ≡ Some m = cc in
-    let e = Planned-next f p cs first (length c.args.needed.now + length cs + 2) c.steps.counter is c.steps.made.items m c.steps.invariant (omega arith) next in
-    let there : c.in_ok-instances-in-Some.instances.items ≡ instances_after is m = grind (arith, common_steps) in
+    let e = Planned-next f p cs first (length c.args.needed.now + length cs + 2) c.steps.counter is c.steps.made.items m c.steps.invariant.moves (omega arith) next in
+    let there : c.make.new.instances.items ≡ instances_after is m = grind (arith, common_steps) in
     let made : c.push.new.self.items ≡ c.steps.made.items ++ m ∷ [] = grind (arith, common_steps) in
-    rw (there, made) e
+    record { moves = rw (there, made) e; loads = grind (arith, common_steps) }
 
 pub returns : goal.returns
 unfolding most_moves moves
@@ -35,6 +35,6 @@ returns c =
     let first = c.args.instances.items in
     let n : length c.args.needed.now + length cs + 2 ≡ most_moves f = cc in
     let last : c.steps.counter ≡ length c.args.needed.now + length cs + 2 = omega arith in
-    let so = c.steps.invariant in
+    let so = c.steps.invariant.moves in
     let e = Planned-all f p cs first (length c.args.needed.now + length cs + 2) c.steps.instances.items c.steps.made.items (rw last at so) in
     rw n at e
