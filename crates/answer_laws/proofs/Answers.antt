@@ -1,5 +1,5 @@
 -- A complete decryption of an admitted circuit's output gives its plain value.
-use Rattle.std.proofs.Common.{◌≡◌, ℕ, ◌<◌, List, [], ◌∷◌, length, slice_index_or, true, sym, subst, arith}
+use Rattle.std.proofs.Common.{◌≡◌, ℕ, ◌<◌, List, [], ◌∷◌, length, slice_index_or, sym, subst, arith}
 use Rattle.std.specs.Prelude.{All}
 use Rattle.param_set.specs.declared.params.Params.{Params}
 use Rattle.ring_spec.specs.Ring.{ring_sum}
@@ -10,41 +10,40 @@ use Rattle.share_laws.proofs.Seeds.{secret_is}
 use Rattle.circuit_laws.specs.Carrying.{Opens, OutputsCarry}
 use Rattle.cipher_spec.specs.Keys.{Keys}
 use Rattle.proto_names.specs.Roles.{Role}
-use Rattle.session_rules.specs.States.{is_admitted, plan}
-use Rattle.session_spec.specs.Settings.{Setting, Offer, Keeps, Tells, rules, no_offer, nodes_at, values_at, plain_at, HasValues, IsSwitchFree, NeedsNoSwitch}
+use Rattle.session_spec.specs.Settings.{Setting, Offer, Keeps, Tells, no_offer, nodes_at, values_at, plain_at, HasValues, IsSwitchFree, NeedsNoSwitch}
 use Rattle.session_spec.specs.Shares.{full_sums}
 use Rattle.session_spec.specs.Outputs.{inputs_of, output_of}
-use Rattle.session_laws.specs.Laws.{IsDecryption, Serves, AnswersArePlain}
+use Rattle.session_laws.specs.Laws.{Admits, IsDecryption, Serves, AnswersArePlain}
 use Rattle.answer_laws.proofs.Acting.{setting_of}
-use Rattle.answer_laws.proofs.Inputs.{admitted, are_inputs}
+use Rattle.answer_laws.proofs.Inputs.{are_inputs}
 use Rattle.answer_laws.proofs.Decryptions.{decrypts}
 
 -- the output of an admitted circuit opens to its plain value
-output_opens : OutputsCarry → (p : Params) (public : List ℕ) (offers : List Offer) (seeds : List (List ℕ)) (c : ℕ) (keys : Keys) → length seeds ≡ p.parties → c < length offers →
-    Keeps p (slice_index_or offers c no_offer) → IsSwitchFree (slice_index_or offers c no_offer) → Tells p (slice_index_or offers c no_offer) → is_admitted (plan (rules (setting_of p public offers)) c) ≡ true →
-    Serves (setting_of p public offers) seeds c keys.public →
-    Opens p p.threshold (secret p.q p.n seeds) (output_of (setting_of p public offers) seeds keys c) (plain_at (setting_of p public offers) c)
+output_opens : OutputsCarry → (p : Params) (public : List ℕ) (offers : List Offer) (threshold : ℕ) (seeds : List (List ℕ)) (c : ℕ) (keys : Keys) → length seeds ≡ p.parties → c < length offers →
+    Keeps p (slice_index_or offers c no_offer) → IsSwitchFree (slice_index_or offers c no_offer) → Tells p (slice_index_or offers c no_offer) → Admits p (setting_of p public offers) threshold c →
+    Serves (setting_of p public offers) threshold seeds c keys.public →
+    Opens p threshold (secret p.q p.n seeds) (output_of (setting_of p public offers) seeds keys c) (plain_at (setting_of p public offers) c)
 unfolding output_of plain_at
-output_opens carry p public offers seeds c keys all l keeps free tells admits serves =
+output_opens carry p public offers threshold seeds c keys all l keeps free tells admits serves =
     let w = setting_of p public offers in
-    carry p p.threshold keys (secret p.q p.n seeds) (nodes_at w c) (values_at w c) (inputs_of w seeds keys.public c) keeps.rules free (admitted p public offers c l admits)
-    (secret_is p.q p.n seeds (omega arith)) (are_inputs p public offers seeds c keys.public all l tells serves)
+    carry p threshold keys (secret p.q p.n seeds) (nodes_at w c) (values_at w c) (inputs_of w seeds keys.public c) keeps.rules free admits
+    (secret_is p.q p.n seeds (omega arith)) (are_inputs p public offers threshold seeds c keys.public all l tells serves)
 
 -- what a setting's answer has to be
-abbrev Answers : Params → List (List ℕ) → ℕ → Role → Keys → Setting → Type 0
-Answers p seeds c role keys w =
-    All (Keeps p) w.offers → HasValues p w → NeedsNoSwitch w → c < length w.offers → is_admitted (plan (rules w) c) ≡ true → IsDecryption w c role → Serves w seeds c keys.public
+abbrev Answers : Params → ℕ → List (List ℕ) → ℕ → Role → Keys → Setting → Type 0
+Answers p threshold seeds c role keys w =
+    All (Keeps p) w.offers → HasValues p w → NeedsNoSwitch w → c < length w.offers → Admits p w threshold c → IsDecryption w threshold c role → Serves w threshold seeds c keys.public
     → decryption p.q p.t (ring_sum p.q p.n (output_of w seeds keys c).c0 (slice_index_or (full_sums w seeds role ((output_of w seeds keys c).c1 ∷ [])) 0 []))
     ≡ plain_at w c
 
-answers_of : OutputsCarry → (p : Params) (public : List ℕ) (offers : List Offer) (seeds : List (List ℕ)) (c : ℕ) (role : Role) (keys : Keys) → length seeds ≡ p.parties →
-    Answers p seeds c role keys (setting_of p public offers)
-answers_of carry p public offers seeds c role keys all keeps tells free l admits of serves =
+answers_of : OutputsCarry → (p : Params) (public : List ℕ) (offers : List Offer) (threshold : ℕ) (seeds : List (List ℕ)) (c : ℕ) (role : Role) (keys : Keys) → length seeds ≡ p.parties →
+    Answers p threshold seeds c role keys (setting_of p public offers)
+answers_of carry p public offers threshold seeds c role keys all keeps tells free l admits of serves =
     let w = setting_of p public offers in
-    decrypts p public offers seeds c role (output_of w seeds keys c) (plain_at w c) of
-    (output_opens carry p public offers seeds c keys all l (keeps c no_offer l) (free c no_offer l) (tells c no_offer l) admits serves)
+    decrypts p public offers threshold seeds c role (output_of w seeds keys c) (plain_at w c) of
+    (output_opens carry p public offers threshold seeds c keys all l (keeps c no_offer l) (free c no_offer l) (tells c no_offer l) admits serves)
 
 pub answers_are_plain : OutputsCarry → AnswersArePlain
-answers_are_plain carry p w seeds c role keys setting values free all l admits of serves =
-    let P : Numbers → Type 0 = λ z. Answers p seeds c role keys (record { numbers = z; public = w.public; offers = w.offers }) in
-    subst P (sym setting.numbers) (answers_of carry p w.public w.offers seeds c role keys all) setting.circuits values free l admits of serves
+answers_are_plain carry p w threshold seeds c role keys setting values free all l admits of serves =
+    let P : Numbers → Type 0 = λ z. Answers p threshold seeds c role keys (record { numbers = z; public = w.public; offers = w.offers }) in
+    subst P (sym setting.numbers) (answers_of carry p w.public w.offers threshold seeds c role keys all) setting.circuits values free l admits of serves

@@ -1,5 +1,6 @@
--- The decryption of what opens, with honest shares of as many parties as the threshold, is what it carries.
+-- The decryption of what opens, with honest shares of parties that act within its threshold, is what it carries.
 use Rattle.std.proofs.Common.{◌≡◌, ℕ, ◌+◌, ◌*◌, ◌≤◌, ◌<◌, List, [], ◌∷◌, length, slice_index_or, sym, ap, subst, ◌∙◌, arith}
+use Rattle.std.proofs.lemmas.Nat.{mul-le}
 use Rattle.param_set.specs.declared.params.Params.{Params}
 use Rattle.ring_spec.specs.Ring.{IsPoly, size, ring_sum}
 use Rattle.ring_spec.specs.Pairs.{Cipher}
@@ -36,18 +37,21 @@ dec_row p public offers seeds c role c1 e =
     ap (λ (z : Signature). slice_index_or (full_sums (setting_of p public offers) seeds (record role { signature = z }) (c1 ∷ [])) 0 []) e
     ∙ ap (ring_total p.q p.n) (sym (decryption_shares_acting p.q p.n c1 (part_of (setting_of p public offers) seeds role) (dec_noise p seeds role) (members role.set.bits)))
 
-pub decrypts : (p : Params) (public : List ℕ) (offers : List Offer) (seeds : List (List ℕ)) (c : ℕ) (role : Role) (out : Cipher) (m : List ℕ) → IsDecryption (setting_of p public offers) c role →
-    Opens p p.threshold (secret p.q p.n seeds) out m →
+pub decrypts : (p : Params) (public : List ℕ) (offers : List Offer) (threshold : ℕ) (seeds : List (List ℕ)) (c : ℕ) (role : Role) (out : Cipher) (m : List ℕ) → IsDecryption (setting_of p public offers) threshold c role →
+    Opens p threshold (secret p.q p.n seeds) out m →
     decryption p.q p.t (ring_sum p.q p.n out.c0 (slice_index_or (full_sums (setting_of p public offers) seeds role (out.c1 ∷ [])) 0 [])) ≡ m
-decrypts p public offers seeds c role out m of opens =
+decrypts p public offers threshold seeds c role out m of opens =
+    let acts = of.acts in
     let part = part_of (setting_of p public offers) seeds role in
     let noise = dec_noise p seeds role in
     let ps = acting part noise (members role.set.bits) in
     let h : 0 < p.q = omega arith in
     let carried : Carries p.q p.n p.t (ring_total p.q p.n (parts ps)) opens.noise out m =
-    subst (λ (s : List ℕ). Carries p.q p.n p.t s opens.noise out m) (sym (acting_sum p public offers seeds role noise of.parties)) opens.carries in
+    subst (λ (s : List ℕ). Carries p.q p.n p.t s opens.noise out m) (sym (acting_sum p public offers seeds role noise acts.parties)) opens.carries in
+    let room : opens.noise + threshold * p.flood ≤ limit p.q p.t = opens.within in
+    let few : length (noises ps) ≤ threshold = omega (arith, noises_count part noise (members role.set.bits), acts.most) in
     let within : opens.noise + length (noises ps) * p.flood ≤ limit p.q p.t =
-    subst (λ (k : ℕ). opens.noise + k * p.flood ≤ limit p.q p.t) (sym (noises_count part noise (members role.set.bits) ∙ of.parties)) opens.within in
+    omega (arith, room, mul-le (length (noises ps)) p.flood threshold p.flood few (omega arith)) in
     ap (λ (row : List ℕ). decryption p.q p.t (ring_sum p.q p.n out.c0 row)) (dec_row p public offers seeds c role out.c1 of.signature)
     ∙ joint_limit_decrypts p.q p.n p.t opens.noise p.flood out m ps (omega arith) (parameters_fit p.q p.t (omega arith) (omega arith) (omega arith)) opens.plain carried
     (noises_all (IsPoly p.q p.n) part noise (members role.set.bits) (λ j. wide_poly_is p.q p.n p.flood (seed_in seeds j) (instance_stream role.id) 0 h))

@@ -1,8 +1,7 @@
--- The inputs of a session's circuits carry their values, and an admitted circuit has no bound above the limit.
-use Rattle.std.proofs.Common.{◌≡◌, ℕ, ◌+◌, ◌*◌, ◌<◌, true, true≢false, not, List, [], map, length, slice_index_or, get_or, refl, sym, ap, subst, ◌∙◌, inl, inr, arith}
-use Rattle.std.specs.Prelude.{All, Option, Some, None, unwrap_or}
+-- The inputs of a session's circuits carry their values.
+use Rattle.std.proofs.Common.{◌≡◌, ℕ, ◌+◌, ◌*◌, ◌<◌, List, [], length, slice_index_or, get_or, sym, ap, subst, ◌∙◌, inl, inr, arith}
+use Rattle.std.specs.Prelude.{All, Option, unwrap_or}
 use Rattle.std.specs.List.{range_with_len}
-use Rattle.std.proofs.lemmas.List.{get_or-map, length-map}
 use Rattle.std.proofs.lemmas.List.Elements.{All-map}
 use Rattle.std.proofs.lemmas.List.FromFn.{length-map-range_with_len, get_or-map-range_with_len}
 use Rattle.param_set.specs.declared.params.Params.{Params}
@@ -15,47 +14,14 @@ use Rattle.bfv_spec.specs.Drawn.{ternary_poly, small_poly, drawn_encryption}
 use Rattle.bfv_laws.proofs.Noise.{drawn_carries}
 use Rattle.share_spec.specs.Seeds.{seed_in, secret}
 use Rattle.share_laws.proofs.Seeds.{secret_is, secret_small}
-use Rattle.circuit_form.specs.declared.node.Node.{Node}
-use Rattle.noise_ledger.specs.declared.over.Place.{Place}
-use Rattle.param_set.specs.Numbers.{Numbers, numbers_of}
-use Rattle.noise_ledger.specs.Bounds.{input_bound}
-use Rattle.noise_ledger.specs.Ledger.{first_over}
+use Rattle.noise_ledger.specs.Bounds.{numbers_for, input_bound}
 use Rattle.cipher_spec.specs.Ciphers.{no_cipher}
 use Rattle.circuit_laws.specs.Carrying.{AreInputs}
-use Rattle.session_rules.specs.declared.fixed.Plan.{Plan}
-use Rattle.session_rules.specs.States.{is_refused, is_admitted, plan, no_plan}
-use Rattle.session_rules.specs.Fixing.{begins_as, plan_of, fixed_from}
-use Rattle.session_spec.specs.Settings.{Offer, rules, nodes_of, nodes_at, no_offer, values_at, value_at, owner_at, input_count, Tells}
+use Rattle.session_spec.specs.Settings.{Offer, nodes_at, no_offer, values_at, value_at, owner_at, input_count, Tells}
 use Rattle.session_spec.specs.Outputs.{input_of, inputs_of}
 use Rattle.session_laws.specs.Laws.{IsSessionKey, Serves}
 use Rattle.answer_laws.proofs.Acting.{setting_of}
 use Rattle.answer_laws.proofs.Keys.{key_is}
-
--- ---- admitted circuits
-
--- a circuit that doesn't begin refused has no place above the limit
-not_over : (p : Numbers) (nodes : List Node) (over : Option Place) → not (is_refused (begins_as p nodes over)) ≡ true → over ≡ None
-unfolding begins_as
-not_over p nodes None e = refl
-not_over p nodes (Some place) e = absurd (true≢false (sym e))
-
-admitted_plan : (p : Numbers) (nodes : List Node) → is_admitted (plan_of p nodes) ≡ true → first_over p nodes ≡ None
-unfolding plan_of
-admitted_plan p nodes e = not_over p nodes (first_over p nodes) e
-
--- circuit c of the rules is that of the setting
-plan_at : (p : Params) (public : List ℕ) (offers : List Offer) (c : ℕ) → c < length offers →
-    plan (rules (setting_of p public offers)) c ≡ plan_of (numbers_of p) (nodes_at (setting_of p public offers) c)
-unfolding rules fixed_from
-plan_at p public offers c l =
-    get_or-map (plan_of (numbers_of p)) (map nodes_of offers) c [] no_plan (omega (arith, length-map offers nodes_of))
-    ∙ ap (plan_of (numbers_of p)) (get_or-map nodes_of offers c no_offer [] l)
-
-pub admitted : (p : Params) (public : List ℕ) (offers : List Offer) (c : ℕ) → c < length offers →
-    is_admitted (plan (rules (setting_of p public offers)) c) ≡ true → first_over (numbers_of p) (nodes_at (setting_of p public offers) c) ≡ None
-admitted p public offers c l e =
-    let P : Plan → Type 0 = λ z. is_admitted z ≡ true in
-    admitted_plan (numbers_of p) (nodes_at (setting_of p public offers) c) (subst P (plan_at p public offers c l) e)
 
 -- ---- inputs
 
@@ -70,29 +36,29 @@ drawn_fits q n t b key m seed stream k h =
     }
 
 -- input k under a key that belongs to the secret
-input_carries : (p : Params) (public : List ℕ) (offers : List Offer) (seeds : List (List ℕ)) (c k : ℕ) (key : Key) → length seeds ≡ p.parties →
-    IsSessionKey (setting_of p public offers) seeds key →
-    Carries p.q p.n p.t (secret p.q p.n seeds) (input_bound (numbers_of p)) (input_of (setting_of p public offers) seeds key c k) (value_at (setting_of p public offers) c k)
+input_carries : (p : Params) (public : List ℕ) (offers : List Offer) (threshold : ℕ) (seeds : List (List ℕ)) (c k : ℕ) (key : Key) → length seeds ≡ p.parties →
+    IsSessionKey (setting_of p public offers) threshold seeds key →
+    Carries p.q p.n p.t (secret p.q p.n seeds) (input_bound (numbers_for p threshold)) (input_of (setting_of p public offers) seeds key c k) (value_at (setting_of p public offers) c k)
 unfolding input_of input_bound
-input_carries p public offers seeds c k key all y =
+input_carries p public offers threshold seeds c k key all y =
     let w = setting_of p public offers in
-    drawn_carries p.q p.n p.t p.threshold p.err p.parties key (value_at w c k) (secret p.q p.n seeds) (seed_in seeds (owner_at w c k)) (input_stream c k) 0
+    drawn_carries p.q p.n p.t threshold p.err p.parties key (value_at w c k) (secret p.q p.n seeds) (seed_in seeds (owner_at w c k)) (input_stream c k) 0
     (omega arith) (secret_is p.q p.n seeds (omega arith))
-    (subst (λ (z : Key). IsPublicKey p.q p.n (secret p.q p.n seeds) (p.threshold * p.err) z) (sym y.made) (key_is p public offers seeds y.role y.signature y.parties))
+    (subst (λ (z : Key). IsPublicKey p.q p.n (secret p.q p.n seeds) (threshold * p.err) z) (sym y.made) (key_is p public offers threshold seeds y.role y.signature y.acts))
     (omega (arith, secret_small p.q p.n seeds (omega arith)))
 
 -- so does each where the key serves the circuit: one of no input has none
-served : (p : Params) (public : List ℕ) (offers : List Offer) (seeds : List (List ℕ)) (c k : ℕ) (key : Key) → length seeds ≡ p.parties →
-    Serves (setting_of p public offers) seeds c key → k < input_count (setting_of p public offers) c →
-    Carries p.q p.n p.t (secret p.q p.n seeds) (input_bound (numbers_of p)) (input_of (setting_of p public offers) seeds key c k) (value_at (setting_of p public offers) c k)
-served p public offers seeds c k key all (inl none) l = absurd (omega arith)
-served p public offers seeds c k key all (inr y) l = input_carries p public offers seeds c k key all y
+served : (p : Params) (public : List ℕ) (offers : List Offer) (threshold : ℕ) (seeds : List (List ℕ)) (c k : ℕ) (key : Key) → length seeds ≡ p.parties →
+    Serves (setting_of p public offers) threshold seeds c key → k < input_count (setting_of p public offers) c →
+    Carries p.q p.n p.t (secret p.q p.n seeds) (input_bound (numbers_for p threshold)) (input_of (setting_of p public offers) seeds key c k) (value_at (setting_of p public offers) c k)
+served p public offers threshold seeds c k key all (inl none) l = absurd (omega arith)
+served p public offers threshold seeds c k key all (inr y) l = input_carries p public offers threshold seeds c k key all y
 
-pub are_inputs : (p : Params) (public : List ℕ) (offers : List Offer) (seeds : List (List ℕ)) (c : ℕ) (key : Key) → length seeds ≡ p.parties → c < length offers →
-    Tells p (slice_index_or offers c no_offer) → Serves (setting_of p public offers) seeds c key →
-    AreInputs p p.threshold (secret p.q p.n seeds) (nodes_at (setting_of p public offers) c) (values_at (setting_of p public offers) c) (inputs_of (setting_of p public offers) seeds key c)
+pub are_inputs : (p : Params) (public : List ℕ) (offers : List Offer) (threshold : ℕ) (seeds : List (List ℕ)) (c : ℕ) (key : Key) → length seeds ≡ p.parties → c < length offers →
+    Tells p (slice_index_or offers c no_offer) → Serves (setting_of p public offers) threshold seeds c key →
+    AreInputs p threshold (secret p.q p.n seeds) (nodes_at (setting_of p public offers) c) (values_at (setting_of p public offers) c) (inputs_of (setting_of p public offers) seeds key c)
 unfolding input_of
-are_inputs p public offers seeds c key all l tells serves =
+are_inputs p public offers threshold seeds c key all l tells serves =
     let w = setting_of p public offers in
     let s = secret p.q p.n seeds in
     let many = input_count w c in
@@ -105,7 +71,7 @@ are_inputs p public offers seeds c key all l tells serves =
           drawn_fits p.q p.n p.t p.err key (value_at w c k) (seed_in seeds (owner_at w c k)) (input_stream c k) 0 (omega arith));
       plain = subst (All (IsPoly p.t p.n)) (sym told) tells.plain;
       carry = λ k r.
-          subst (λ (z : Cipher). Carries p.q p.n p.t s (input_bound (numbers_of p)) z (value_at w c k))
+          subst (λ (z : Cipher). Carries p.q p.n p.t s (input_bound (numbers_for p threshold)) z (value_at w c k))
           (sym (get_or-map-range_with_len (input_of w seeds key c) 0 many k k no_cipher r (omega arith)))
-          (served p public offers seeds c k key all serves r);
+          (served p public offers threshold seeds c k key all serves r);
     }

@@ -2,7 +2,8 @@
 use Rattle.std.proofs.Common.{◌≡◌, ◌∙◌, sym, ap, refl, ℕ, ◌<◌, true, false, inl, inr, List, [], ◌∷◌, length, slice_index_or, arith}
 use Rattle.ring_spec.specs.Ring.{ring_sum}
 use Rattle.bfv_spec.specs.Scheme.{decryption}
-use Rattle.share_spec.specs.Sets.{count}
+use Rattle.param_set.specs.declared.params.Params.{Params}
+use Rattle.param_set.specs.Numbers.{numbers_of}
 use Rattle.circuit_laws.proofs.Outputs.{outputs_carry}
 use Rattle.proto_names.specs.declared.signature.Signature.{Signature}
 use Rattle.proto_names.specs.Roles.{role_of}
@@ -17,11 +18,11 @@ use Rattle.session_rules.specs.Completions.{HasDecryption}
 use Rattle.session_rules.proofs.Keeps.{state_kept}
 use Rattle.session_rules.proofs.Grounds.{state_grounds}
 use Rattle.session_rules.proofs.Completions.{answered_ones_are_decrypted}
-use Rattle.session_spec.specs.Settings.{Setting, rules}
+use Rattle.session_spec.specs.Settings.{Setting, IsSetting, rules}
 use Rattle.session_spec.specs.Shares.{full_sums}
 use Rattle.session_spec.specs.Outputs.{key_in, keys_in, told_by}
 use Rattle.session_laws.specs.Laws.{IsDecryption, Serves}
-use Rattle.session_laws.proofs.Plans.{rules_threshold}
+use Rattle.session_laws.proofs.Admissions.{acts_by_rules, rules_ask_the_ledger}
 use Rattle.session_laws.proofs.Keys.{done_found, found_is, key_at, keyed}
 use Rattle.answer_laws.proofs.Answers.{answers_are_plain}
 use Rattle.session_script.specs.Asked.{Asked}
@@ -30,13 +31,14 @@ use Rattle.run_report.specs.Reports.{setting_asked, seeds_asked}
 use Rattle.headline.specs.Asked.{rules_asked, state_of, plain, circuit_keys, output, aggregate, decrypted}
 use Rattle.headline.specs.Headline.{IsAnswer}
 use Rattle.headline.specs.History.{are_free}
-use Rattle.headline.proofs.Setting.{params_of, setting_is, has_values, needs_no_switch, seeds_number, whole, plans_number, within_offers, threshold_is}
+use Rattle.headline.proofs.Setting.{params_of, setting_is, has_values, needs_no_switch, seeds_number, whole, plans_number, within_offers}
 use Rattle.headline.proofs.Refused.{others_are_not_refused}
 use Rattle.headline.proofs.Printed.{answered_text, output_told}
 
 -- the public key of a state serves a circuit that is begun
-serves : (w : Setting) (seeds : List (List ℕ)) (s : State) (c : ℕ) → Kept (rules w) s → Grounded (rules w) s → circuit s.circuits c ≡ Answered → Serves w seeds c (key_in w seeds s.instances)
-serves w seeds s c k g e = elim ((keyed w s g).begun c (rw e refl)) [
+serves : (p : Params) (w : Setting) (seeds : List (List ℕ)) (s : State) (c : ℕ) → w.numbers ≡ numbers_of p → Kept (rules w) s → Grounded (rules w) s → circuit s.circuits c ≡ Answered
+    → Serves w p.threshold seeds c (key_in w seeds s.instances)
+serves p w seeds s c numbers k g e = elim ((keyed w s g).begun c (rw e refl)) [
   | inl none ↦ inl none
   | inr done ↦
       let x = done_found Pk s.instances done in
@@ -45,14 +47,14 @@ serves w seeds s c k g e = elim ((keyed w s g).begun c (rw e refl)) [
       inr (record {
         role = role_of j;
         signature = both.1.signature;
-        parties = (k.sound j both.0).parties ∙ rules_threshold w;
+        acts = acts_by_rules p w (role_of j) numbers (k.sound j both.0).parties;
         made = key_at w seeds s.instances j x.found;
       })
 ]
 
-keys_serve : (w : Setting) (seeds : List (List ℕ)) (s : State) (c : ℕ) → Serves w seeds c (key_in w seeds s.instances) → Serves w seeds c (keys_in w seeds s.instances c).public
+keys_serve : (w : Setting) (threshold : ℕ) (seeds : List (List ℕ)) (s : State) (c : ℕ) → Serves w threshold seeds c (key_in w seeds s.instances) → Serves w threshold seeds c (keys_in w seeds s.instances c).public
 unfolding keys_in
-keys_serve w seeds s c h = h
+keys_serve w threshold seeds s c h = h
 
 admitted : (a : Asked) (es : List Entry) (c : ℕ) → circuit (state_of a es).circuits c ≡ Answered → is_admitted (plan (rules_asked a) c) ≡ true
 admitted a es c e =
@@ -78,9 +80,11 @@ opened a h free es c l e d =
     let f = rules_asked a in
     let k = state_kept f es in
     let g = (state_grounds f es (whole a)).1 in
-    let of : IsDecryption w c (role_of i) = record { signature = d.signature; parties = (k.sound i d.issued).parties ∙ rules_threshold w } in
-    let law = answers_are_plain outputs_carry p w seeds c (role_of i) (circuit_keys a s c) (setting_is a h) (has_values a h) (needs_no_switch a free) (seeds_number a)
-    (within_offers a c l) (admitted a es c e) of (keys_serve w seeds s c (serves w seeds s c k g e)) in
+    let setting : IsSetting p w = setting_is a h in
+    let of : IsDecryption w p.threshold c (role_of i) = record { signature = d.signature; acts = acts_by_rules p w (role_of i) setting.numbers (k.sound i d.issued).parties } in
+    let admits = rules_ask_the_ledger p w c setting (within_offers a c l) (admitted a es c e) in
+    let law = answers_are_plain outputs_carry p w p.threshold seeds c (role_of i) (circuit_keys a s c) setting (has_values a h) (needs_no_switch a free) (seeds_number a)
+    (within_offers a c l) admits of (keys_serve w p.threshold seeds s c (serves p w seeds s c setting.numbers k g e)) in
     ap (λ (z : List (List ℕ)). decryption a.numbers.q a.numbers.t (ring_sum a.numbers.q a.numbers.n (output a s c).c0 (slice_index_or z 0 []))) (told_of a s c i d.signature) ∙ law
 
 pub answers : (a : Asked) → IsAccepted a → are_free a.circuits ≡ true → (es : List Entry) (c : ℕ) → c < length a.circuits → circuit (state_of a es).circuits c ≡ Answered → IsAnswer a (state_of a es) c

@@ -32,11 +32,12 @@ use Rattle.session_spec.specs.Outputs.{key_in, keys_in, input_of, output_of, tol
 use Rattle.session_spec.specs.Stores.{Store, held_sums, held_input, held_output, held_answer, with_rows, with_answer, with_output}
 use Rattle.session_spec.specs.Stores as stores
 use Rattle.session_laws.specs.Laws.{AnswersArePlain, Stands}
-use Rattle.session_laws.proofs.Plans.{rules_number, rules_threshold, plan_inputs, no_inputs_past, settled_begun}
+use Rattle.session_laws.proofs.Plans.{rules_number, plan_inputs, no_inputs_past, settled_begun}
 use Rattle.session_laws.proofs.Keys.{Keyed, keyed, key_stays, output_stays, polys_stay}
 use Rattle.session_laws.proofs.Totals.{all_sent, same_sums}
 use Rattle.session_laws.proofs.Holding.{Holds, holds_from, sums_stay, told_at}
 use Rattle.session_laws.proofs.Cells.{cell_same, cell_beside, cell_off, inputs_number, row_number}
+use Rattle.session_laws.proofs.Admissions.{acts_by_rules}
 use Rattle.session_laws.proofs.Answers.{opened_plain}
 use Rattle.session_laws.proofs.Answered.{answer_told, answer_sums, answer_inputs, answer_outputs, answer_other, answer_its}
 use Rattle.session_laws.proofs.Counted.{instances_number, added_sums, counted_told, counted_sums}
@@ -248,7 +249,7 @@ module _ (p : Params) (w : Setting) (seeds : List (List ℕ)) (s : State) (h : S
           let output : held_output added c ≡ Some (output_of w seeds (keys c) c) =
           ap (λ (z : List (Option Cipher)). get_or z c None) added_outputs ∙ held.outputs c l (ap (λ (z : CircuitState). is_settled z) (evaluated_before c mark)) in
           answer_its w i.id i.signature added c mark within
-          ∙ ap Some (opened_plain p w seeds s h added c i.id (role_of i) law y (evaluated_before c mark) (record { signature = mark; parties = sound.parties ∙ rules_threshold w }) output (whole_sums last c mark))
+          ∙ ap Some (opened_plain p w seeds s h added c i.id (role_of i) law y (evaluated_before c mark) (record { signature = mark; acts = acts_by_rules p w (role_of i) y.setting.numbers sound.parties }) output (whole_sums last c mark))
       | inr other ↦
           answer_other w i.id i.signature added c other ∙ ap (λ (z : List (Option (List ℕ))). get_or z c None) added_answers
           ∙ held.answers c l (sym (answered_other i.signature s.circuits c other) ∙ e)

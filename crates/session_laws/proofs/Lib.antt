@@ -6,6 +6,7 @@ pub mod Cells
 pub mod Beginnings
 pub mod Inputs
 pub mod HeldKeys
+pub mod Admissions
 pub mod Answers
 pub mod Counted
 pub mod Answered

@@ -1,11 +1,13 @@
 -- What holds of honest stores.
-use Rattle.std.specs.Prelude.{◌≡◌, ℕ, ◌<◌, ◌⊎◌, true, List, [], ◌∷◌, map, length, slice_index_or, Some}
+use Rattle.std.specs.Prelude.{◌≡◌, ℕ, ◌<◌, ◌≤◌, ◌⊎◌, true, List, [], ◌∷◌, map, length, slice_index_or, Some, None}
 use Rattle.ring_spec.specs.Ring.{ring_sum}
 use Rattle.ring_spec.specs.Pairs.{Cipher, Key}
 use Rattle.draw_spec.specs.Places.{Seed}
 use Rattle.bfv_spec.specs.Scheme.{decryption}
 use Rattle.share_spec.specs.Sets.{count}
 use Rattle.param_set.specs.declared.params.Params.{Params}
+use Rattle.noise_ledger.specs.Bounds.{numbers_for}
+use Rattle.noise_ledger.specs.Ledger.{first_over}
 use Rattle.cipher_spec.specs.Keys.{Keys}
 use Rattle.proto_names.specs.Roles.{Role}
 use Rattle.proto_names.specs.declared.signature.Signature.TheVariants.{Pk, Dec}
@@ -15,36 +17,54 @@ use Rattle.session_rules.specs.States.{State, is_admitted, plan, circuit, openin
 use Rattle.session_rules.specs.Steps.{deliver, input, finish, ready, judge, step}
 use Rattle.session_rules.specs.Facts.{Kept, IsLater, is_begun}
 use Rattle.session_rules.specs.Grounds.{Grounded}
-use Rattle.session_spec.specs.Settings.{Setting, rules, input_count, plain_at, IsSetting, HasValues, NeedsNoSwitch}
+use Rattle.session_spec.specs.Settings.{Setting, rules, nodes_at, input_count, plain_at, IsSetting, HasValues, NeedsNoSwitch}
 use Rattle.session_spec.specs.Shares.{full_sums, key_of}
 use Rattle.session_spec.specs.Outputs.{key_instance, key_in, keys_in, inputs_of, output_of}
 use Rattle.session_spec.specs.Stores.{Store, cipher_or, key_by, held_keys, empty, Brought, share_brought, cipher_brought, store_done}
 use Rattle.session_spec.specs.Honesty.{Matches, IsHonest, BringsShare, BringsInput, BringsOutput, Brings}
 
+-- ---- the ledger's T
+
+-- the ledger asked with a threshold admits circuit c
+abbrev pub Admits : Params → Setting → ℕ → ℕ → Type 0
+Admits p w threshold c = first_over (numbers_for p threshold) (nodes_at w c) ≡ None
+
+-- a circuit that the rules begin as admitted is admitted by the ledger asked with the parameters' T
+abbrev pub RulesAskTheLedger : Type 0
+RulesAskTheLedger =
+    (p : Params) (w : Setting) (c : ℕ) → IsSetting p w → c < length w.offers
+    → is_admitted (plan (rules w) c) ≡ true → Admits p w p.threshold c
+
+-- the parties of a role act together: as many as reconstruct the secret, and at most the ledger's threshold
+pub record ActsWithin (w : Setting) (threshold : ℕ) (role : Role) : Type 0 where
+  pub parties : count role.set.bits ≡ w.numbers.threshold
+  pub most : count role.set.bits ≤ threshold
+
 -- ---- answers
 
--- a public key that serves a circuit: that of an instance of as many parties as act together; any where the circuit
--- has no input
-pub record IsSessionKey (w : Setting) (seeds : List Seed) (key : Key) : Type 0 where
+-- a public key that serves a circuit: that of an instance whose parties act within the ledger's threshold; any where
+-- the circuit has no input
+pub record IsSessionKey (w : Setting) (threshold : ℕ) (seeds : List Seed) (key : Key) : Type 0 where
   pub role : Role
   pub signature : role.signature ≡ Pk
-  pub parties : count role.set.bits ≡ w.numbers.threshold
+  pub acts : ActsWithin w threshold role
   pub made : key ≡ key_of w seeds role
 
-abbrev pub Serves : Setting → List Seed → ℕ → Key → Type 0
-Serves w seeds c key = (input_count w c ≡ 0) ⊎ IsSessionKey w seeds key
+abbrev pub Serves : Setting → ℕ → List Seed → ℕ → Key → Type 0
+Serves w threshold seeds c key = (input_count w c ≡ 0) ⊎ IsSessionKey w threshold seeds key
 
--- the instance of a decryption of circuit c, of as many parties as act together
-pub record IsDecryption (w : Setting) (c : ℕ) (role : Role) : Type 0 where
+-- the instance of a decryption of circuit c, whose parties act within the ledger's threshold
+pub record IsDecryption (w : Setting) (threshold c : ℕ) (role : Role) : Type 0 where
   pub signature : role.signature ≡ Dec c
-  pub parties : count role.set.bits ≡ w.numbers.threshold
+  pub acts : ActsWithin w threshold role
 
--- a complete decryption of an admitted circuit's output gives its plain value, where the circuits need no key switch
+-- a complete decryption of the output of a circuit that the ledger admits gives its plain value, where the circuits need
+-- no key switch, for any threshold that the ledger is asked with
 abbrev pub AnswersArePlain : Type 0
 AnswersArePlain =
-    (p : Params) (w : Setting) (seeds : List Seed) (c : ℕ) (role : Role) (keys : Keys)
+    (p : Params) (w : Setting) (threshold : ℕ) (seeds : List Seed) (c : ℕ) (role : Role) (keys : Keys)
     → IsSetting p w → HasValues p w → NeedsNoSwitch w → length seeds ≡ p.parties → c < length w.offers
-    → is_admitted (plan (rules w) c) ≡ true → IsDecryption w c role → Serves w seeds c keys.public
+    → Admits p w threshold c → IsDecryption w threshold c role → Serves w threshold seeds c keys.public
     → decryption p.q p.t (ring_sum p.q p.n (output_of w seeds keys c).c0
     (slice_index_or (full_sums w seeds role ((output_of w seeds keys c).c1 ∷ [])) 0 []))
     ≡ plain_at w c

@@ -1,5 +1,6 @@
-//! What holds of honest stores, call by call: each function states a law, and does nothing.
-ghost use Rattle.session_laws.specs.Laws.{AnswersArePlain, OutputsStay};
+//! What holds of honest stores, call by call, and of the circuits that are admitted: each function states a law, and
+//! does nothing.
+ghost use Rattle.session_laws.specs.Laws.{AnswersArePlain, OutputsStay, RulesAskTheLedger};
 ghost use Rattle.session_laws.specs.Laws.{OpeningIsHonest, CallsKeepHonest, SharesAreBrought, InputsAreBrought, OutputsAreBrought, HeldKeysAreKeys, CircuitsHaveTheirKeys, ReadyOnesHaveInputs};
 ghost use Rattle.session_laws.specs.Beginnings.{OpeningStands};
 ghost use Rattle.session_laws.specs.Constancy.{HistoriesLeadOn, InputsStay, IssuedOnesStay, KeyStays, ReadyOnesStay};
@@ -10,6 +11,11 @@ ghost use Rattle.session_laws.specs.Turns.{ContentStandsOn};
 pub fn beginnings()
     ensures honest { OpeningIsHonest }
     ensures stands { OpeningStands }
+{}
+
+/// A circuit that the rules begin as admitted is admitted by the noise ledger asked with the parameters' T.
+pub fn admissions()
+    ensures { RulesAskTheLedger }
 {}
 
 /// The output of a circuit that is begun is the same in every later state.
