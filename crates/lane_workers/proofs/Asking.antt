@@ -7,11 +7,11 @@ use Rattle.party_roll.specs.declared.roll.Roll.{Ghosts}
 use Rattle.session_rules.specs.declared.call.Call.TheVariants as call
 use Rattle.session_rules.specs.declared.reply.Reply.{Reply}
 use Rattle.session_rules.specs.declared.reply.Reply.TheVariants as reply
-use Rattle.session_rules.specs.Tasks.{shares, delivers, finishes, exhausts, listed, briefed, job, gives_at, owing, share_for, delivering, exhausting}
+use Rattle.session_rules.specs.Tasks.{shares, delivers, finishes, returns, exhausts, listed, briefed, job, gives_at, owing, share_for, delivering, evaluating, returning, exhausting}
 use Rattle.session_rules.specs.Courses.{sends}
 use Rattle.session_core.specs.declared.session.Session.{Session}
 use Rattle.session_core.specs.Calls.{Made}
-use Rattle.lane_workers.specs.Doing.{Doing, Did, rules_for}
+use Rattle.lane_workers.specs.Doing.{Doing, Did, works, quits, rules_for}
 use Rattle.lane_workers.proofs.Going.{begins, calls_on, told_so}
 
 no_share : (l p id : ℕ) (r : Reply) → briefed r ≡ None → delivering (option_map (share_for l p id) (briefed r)) ++ [] ≡ []
@@ -41,6 +41,22 @@ one_job r c e = rw e refl
 last_job : (r : Reply) → job r ≡ None → exhausting (job r) ++ [] ≡ []
 unfolding exhausting
 last_job r e = rw e refl
+
+one_work : (r : Reply) (c : ℕ) → job r ≡ Some c → evaluating (job r) ++ [] ≡ finishes c ∷ []
+unfolding evaluating
+one_work r c e = rw e refl
+
+no_work : (r : Reply) → job r ≡ None → evaluating (job r) ++ [] ≡ []
+unfolding evaluating
+no_work r e = rw e refl
+
+one_return : (r : Reply) (c : ℕ) → job r ≡ Some c → returning (job r) ++ [] ≡ returns c ∷ []
+unfolding returning
+one_return r c e = rw e refl
+
+no_return : (r : Reply) → job r ≡ None → returning (job r) ++ [] ≡ []
+unfolding returning
+no_return r e = rw e refl
 
 module _ {R : Type 0} {K : Ghosts R} where
   -- of an instance that was asked for
@@ -78,3 +94,20 @@ module _ {R : Type 0} {K : Ghosts R} where
   pub no_job_owed : (r : Reply) (old mid new : Session R K) → Doing (exhausts ∷ []) (exhausts ∷ []) old mid → Made mid new 0 call.Take r → job r ≡ None → Did (exhausts ∷ []) old new
   no_job_owed r old mid new x made e =
       told_so (exhausts ∷ []) _ [] old new (last_job r e) (calls_on (exhausts ∷ []) [] exhausts call.Take r old mid new x refl refl made)
+
+  -- of a line of a lane that asked for a circuit
+  pub work_owed : (c : ℕ) (r : Reply) (old new : Session R K) → Made old new 0 call.Take r → job r ≡ Some c → Doing (works ∷ []) (finishes c ∷ []) old new
+  work_owed c r old new made e =
+      told_so (works ∷ []) _ (finishes c ∷ []) old new (one_work r c e) (calls_on (works ∷ []) [] works call.Take r old old new (begins (works ∷ []) old) refl refl made)
+
+  pub no_work_owed : (r : Reply) (old new : Session R K) → Made old new 0 call.Take r → job r ≡ None → Did (works ∷ []) old new
+  no_work_owed r old new made e =
+      told_so (works ∷ []) _ [] old new (no_work r e) (calls_on (works ∷ []) [] works call.Take r old old new (begins (works ∷ []) old) refl refl made)
+
+  pub return_owed : (c : ℕ) (r : Reply) (old new : Session R K) → Made old new 0 call.Take r → job r ≡ Some c → Doing (quits ∷ []) (returns c ∷ []) old new
+  return_owed c r old new made e =
+      told_so (quits ∷ []) _ (returns c ∷ []) old new (one_return r c e) (calls_on (quits ∷ []) [] quits call.Take r old old new (begins (quits ∷ []) old) refl refl made)
+
+  pub no_return_owed : (r : Reply) (old new : Session R K) → Made old new 0 call.Take r → job r ≡ None → Did (quits ∷ []) old new
+  no_return_owed r old new made e =
+      told_so (quits ∷ []) _ [] old new (no_return r e) (calls_on (quits ∷ []) [] quits call.Take r old old new (begins (quits ∷ []) old) refl refl made)

@@ -80,6 +80,10 @@ pub is_told : (s : State) (id : ℕ) (σ : Signature) (set : PartySet) → brief
 unfolding brief
 is_told s id σ set e = told_by s id (instance s.instances id) σ set refl e
 
+pub told_there : (f : Fixed) (s : State) (id : ℕ) (σ : Signature) (set : PartySet) → (step f s 0 (call.Brief id)).0 ≡ reply.Brief σ set → IsTold s id σ set
+unfolding step judge
+told_there f s id σ set e = is_told s id σ set e
+
 -- where no brief comes there is none
 void_or_not : (i : Instance) (stage : Stage) → i.stage ≡ stage → (IsLive i → ⊥) → briefed (told i stage) ≡ None
 unfolding told

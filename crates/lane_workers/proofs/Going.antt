@@ -18,12 +18,12 @@ use Rattle.lane_workers.specs.Doing.{Acted, is_made_first, StopsFor, Halted, Doi
 use Rattle.lane_workers.proofs.Doing.{starts, does_more, calls_more, stops_within, stops_at}
 
 -- why it stopped at a call that wasn't answered
-stops_for : (why : Stop) (most : ℕ) (now : List Entry) (c : Call) → ((why ≡ Spent) ↔ (length now ≡ most)) → StopsFor why most now c
+pub stops_for : (why : Stop) (most : ℕ) (now : List Entry) (c : Call) → ((why ≡ Spent) ↔ (length now ≡ most)) → StopsFor why most now c
 stops_for Spent most now c h = h.0 refl
 stops_for NoMemory most now c h = λ _ full. let never = h.1 full in cc
 
 -- and where there was no memory for what it brings
-stops_short : (why : Stop) (most : ℕ) (now : List Entry) (c : Call) → why ≡ NoMemory → is_made_first c ≡ true → StopsFor why most now c
+pub stops_short : (why : Stop) (most : ℕ) (now : List Entry) (c : Call) → why ≡ NoMemory → is_made_first c ≡ true → StopsFor why most now c
 stops_short Spent most now c e first = cc
 stops_short NoMemory most now c e first = λ other. cc
 
@@ -36,16 +36,16 @@ pub err_spent : {X : Type 0} (why : Stop) (Full : Type 0) → (◌≡◌ {A = Re
 err_spent why Full h = (λ e. h.0 (ap Err e), λ full. let same = h.1 full in cc)
 
 module _ {R : Type 0} {K : Ghosts R} where
-  abbrev rows : Session R K → ℕ
+  abbrev pub rows : Session R K → ℕ
   rows s = (rules (known s).setting).rows
 
   pub known_is : (a b : Session R K) → about b ≡ about a → known b ≡ known a
   known_is a b e = ap (λ (z : About R). z.known) e
 
-  rows_are : (a b : Session R K) → about b ≡ about a → rows b ≡ rows a
+  pub rows_are : (a b : Session R K) → about b ≡ about a → rows b ≡ rows a
   rows_are a b e = ap (λ (z : About R). (rules z.known.setting).rows) e
 
-  most_is : (a b : Session R K) → about b ≡ about a → (known b).most ≡ (known a).most
+  pub most_is : (a b : Session R K) → about b ≡ about a → (known b).most ≡ (known a).most
   most_is a b e = ap (λ (z : About R). z.known.most) e
 
   pub begins : (ts : List Task) (s : Session R K) → Doing ts ts s s

@@ -1,5 +1,8 @@
 pub mod Doing
 pub mod Going
+pub mod Quiet
+pub mod Lines
+pub mod Holds
 pub mod Asking
 pub mod Settled
 pub mod Bringing

@@ -1,20 +1,23 @@
--- A session is settled round by round, after some parties joined.
+-- A session is settled round by round, after some parties joined and lanes were followed.
 use Rattle.std.proofs.Common.{◌≡◌, ◌∙◌, sym, ap, subst, refl, ℕ, suc, ◌≤◌, true, false, List, [], ◌++◌, map, inl, inr, None}
+use Rattle.std.specs.List.{flat_map}
 use Rattle.std.proofs.lemmas.List.{append-nil}
 use Rattle.party_roll.specs.declared.roll.Roll.{Ghosts}
 use Rattle.session_rules.specs.declared.call.Call.{Call}
 use Rattle.session_rules.specs.declared.call.Entry.{Entry}
+use Rattle.session_rules.specs.declared.line.Line.{Line}
 use Rattle.session_rules.specs.declared.fixed.Fixed.{Fixed}
 use Rattle.session_rules.specs.States.{State, opening}
 use Rattle.session_rules.specs.Histories.{after, state_after, IsLegal}
 use Rattle.session_rules.specs.Steps.{next_ready}
 use Rattle.session_rules.specs.Grounds.{NoneOpened, CanSettle}
 use Rattle.session_rules.specs.Tasks.{Task, own}
-use Rattle.session_rules.specs.Courses.{Follows, BreaksOff, joins, serial_tasks, is_settled, round_tasks, Settles, Unsettled, rounds, IsSerial}
+use Rattle.session_rules.specs.Courses.{Follows, BreaksOff, joins, lane_tasks, serial_tasks, is_settled, round_tasks, Settles, Unsettled, rounds, IsSerial}
 use Rattle.session_rules.proofs.Runs.{after_append}
 use Rattle.run_laws.specs.Leaving.{Leaves}
 use Rattle.run_laws.specs.Settling.{SettlesAlone}
-use Rattle.run_laws.proofs.Leaving.{follows_all}
+use Rattle.run_laws.proofs.Appends.{tasks_append, lanes_look}
+use Rattle.run_laws.proofs.Leaving.{leaves_more, breaks_more, follows_all}
 use Rattle.run_laws.proofs.MoreRounds.{SoFar, one_round, all_rounds, enough_rounds, few_rounds}
 use Rattle.run_laws.proofs.Settling.{settling_ends, settling_answers}
 use Rattle.session_laws.proofs.Beginnings.{rules_whole}
@@ -23,7 +26,7 @@ use Rattle.session_spec.specs.Settings.{rules}
 use Rattle.session_core.specs.declared.session.Session.{Session}
 use Rattle.session_core.specs.declared.stop.Stop.{Stop}
 use Rattle.session_core.specs.Calls.{About, about, known, state_of}
-use Rattle.lane_workers.specs.Doing.{Acted, Halted, AreRounds, AreFewRounds, AreSerial, AreFewSerial, Did, BrokeOff, Settled, StoppedSettling, Served, StoppedServing, rules_for, state_behind}
+use Rattle.lane_workers.specs.Doing.{Acted, Halted, AreRounds, AreFewRounds, AreSerial, AreFewSerial, Did, BrokeOff, Followed, Settled, StoppedSettling, Served, StoppedServing, rules_for, state_behind}
 use Rattle.lane_workers.proofs.Doing.{acted_more, acted_so, halted_more, halted_so}
 
 -- ---- states
@@ -39,15 +42,38 @@ breaks_so : (f g : Fixed) (s t : State) (es : List Entry) (next : Call) → g �
 breaks_so f g s t es next same e x =
     subst (λ (z : State). BreaksOff f.rows (round_tasks z) es next) e (subst (λ (z : Fixed). BreaksOff z.rows (round_tasks t) es next) same x)
 
--- with no lanes those that join are all
-serial_is : (present : List ℕ) → serial_tasks present [] ≡ map joins present
+-- those that join, and the lanes behind them
+abbrev lanes_all : List (List Line) → List Task
+lanes_all lanes = flat_map lane_tasks lanes
+
+serial_is : (present : List ℕ) (lanes : List (List Line)) → serial_tasks present lanes ≡ map joins present ++ lanes_all lanes
 unfolding serial_tasks
-serial_is present = append-nil (map joins present)
+serial_is present lanes = refl
+
+joined_then : (l : ℕ) (present : List ℕ) (lanes : List (List Line)) (a b : List Entry) → Leaves l (map joins present) [] a → Follows l (lanes_all lanes) b → Follows l (serial_tasks present lanes) (a ++ b)
+joined_then l present lanes a b x y =
+    subst (λ (z : List Task). Follows l z (a ++ b)) (sym (serial_is present lanes))
+    (tasks_append l (map joins present) (lanes_all lanes) a b (lanes_look lanes) (follows_all l (map joins present) a x) y)
+
+joining_breaks : (l : ℕ) (present : List ℕ) (lanes : List (List Line)) (es : List Entry) (next : Call) → BreaksOff l (map joins present) es next → BreaksOff l (serial_tasks present lanes) es next
+joining_breaks l present lanes es next x =
+    let us = map joins present in
+    let rest = lanes_all lanes in
+    subst (λ (z : List Task). BreaksOff l z es next) (sym (serial_is present lanes)) (breaks_more l (us ++ rest) us rest [] es next (record { leaves = refl }) x)
+
+lanes_break : (l : ℕ) (present : List ℕ) (lanes : List (List Line)) (a b : List Entry) (next : Call) → Leaves l (map joins present) [] a → BreaksOff l (lanes_all lanes) b next
+    → BreaksOff l (serial_tasks present lanes) (a ++ b) next
+lanes_break l present lanes a b next x y =
+    let us = map joins present in
+    let rest = lanes_all lanes in
+    let here : Leaves l (us ++ rest) rest a = leaves_more l (us ++ rest) us [] rest [] a (record { leaves = refl }) x in
+    subst (λ (z : List Task). BreaksOff l z (a ++ b) next) (sym (serial_is present lanes))
+    (breaks_more l (us ++ rest) rest [] a b next (subst (λ (z : List Task). Leaves l (us ++ rest) z a) (sym (append-nil rest)) here) y)
 
 -- behind an empty history it is a history of the serial course
-pub serial_history : (f : Fixed) (present : List ℕ) (now : List Entry) → Acted (AreSerial f present (state_after f [])) [] now → IsSerial f present [] now
+pub serial_history : (f : Fixed) (present : List ℕ) (lanes : List (List Line)) (now : List Entry) → Acted (AreSerial f present lanes (state_after f [])) [] now → IsSerial f present lanes now
 unfolding after opening
-serial_history f present now x = record {
+serial_history f present lanes now x = record {
   acts = x.are.acts;
   settling = x.are.settling;
   parts = x.log ∙ x.are.parts;
@@ -60,7 +86,7 @@ alone_settles : (f : Fixed) (before now : List Entry) → IsLegal f now → (x :
 alone_settles f before now legal x = record { legal = subst (λ (z : List Entry). IsLegal f z) x.log legal; alone = x.alone; settles = x.are.settles }
 
 module _ {R : Type 0} {K : Ghosts R} where
-  rules_are : (a b : Session R K) → about b ≡ about a → rules_for b ≡ rules_for a
+  pub rules_are : (a b : Session R K) → about b ≡ about a → rules_for b ≡ rules_for a
   rules_are a b e = ap (λ (z : About R). rules z.known.setting) e
 
   most_is : (a b : Session R K) → about b ≡ about a → (known b).most ≡ (known a).most
@@ -112,41 +138,59 @@ module _ {R : Type 0} {K : Ghosts R} where
       let s = state_behind old in
       acted_so (SoFar n f s) (AreRounds f s) old.log.items mid.log.items x (λ es log so_far. record { settles = all_rounds f s es (subst (λ (k : ℕ). SoFar k f s es) none so_far) })
 
-  -- ---- after some parties joined
+  -- ---- after some parties joined and lanes were followed
 
-  pub joined_settled : (present : List ℕ) (old mid new : Session R K) → about mid ≡ about old → Did (map joins present) old mid → Settled mid new → Served present old new
-  joined_settled present old mid new same x y =
+  pub joined_followed : (present : List ℕ) (lanes : List (List Line)) (old mid new : Session R K) → about mid ≡ about old → Did (map joins present) old mid → Followed (flat_map lane_tasks lanes) mid new
+      → Followed (serial_tasks present lanes) old new
+  joined_followed present lanes old mid new same x y =
+      let l = (rules_for old).rows in
+      let lanes_follow = λ (z : Fixed). Acted (Follows z.rows (lanes_all lanes)) mid.log.items new.log.items in
+      acted_more (Leaves l (map joins present) []) (Follows l (lanes_all lanes)) (Follows l (serial_tasks present lanes)) old.log.items mid.log.items new.log.items x
+      (subst lanes_follow (rules_are old mid same) y) (λ a b _ p q. joined_then l present lanes a b p q)
+
+  pub followed_settled : (present : List ℕ) (lanes : List (List Line)) (old mid new : Session R K) → about mid ≡ about old → Followed (serial_tasks present lanes) old mid → Settled mid new → Served present lanes old new
+  followed_settled present lanes old mid new same x y =
       let f = rules_for old in
       let s = state_behind old in
-      acted_more (Leaves f.rows (map joins present) []) (AreRounds (rules_for mid) (state_behind mid)) (AreSerial f present s) old.log.items mid.log.items new.log.items x y
+      acted_more (Follows f.rows (serial_tasks present lanes)) (AreRounds (rules_for mid) (state_behind mid)) (AreSerial f present lanes s) old.log.items mid.log.items new.log.items x y
       (λ a b log acts settling.
       let now = behind_is f (rules_for mid) old.log.items mid.log.items a (rules_are old mid same) log in
       record {
         acts = a;
         settling = b;
         parts = refl;
-        follows = subst (λ (z : List Task). Follows f.rows z a) (sym (serial_is present)) (follows_all f.rows (map joins present) a acts);
+        follows = acts;
         settles = subst (λ (z : State). Settles rounds f 0 z b) now (subst (λ (z : Fixed). Settles rounds z 0 (state_behind mid) b) (rules_are old mid same) settling.settles);
       })
 
-  pub joining_stopped : (present : List ℕ) (why : Stop) (old new : Session R K) → BrokeOff (map joins present) old new why → StoppedServing present old new why
-  joining_stopped present why old new x =
+  pub joining_stopped : (present : List ℕ) (lanes : List (List Line)) (why : Stop) (old new : Session R K) → BrokeOff (map joins present) old new why → StoppedServing present lanes old new why
+  joining_stopped present lanes why old new x =
       let f = rules_for old in
-      halted_so (known old).most why (BreaksOff f.rows (map joins present)) (AreFewSerial f present (state_behind old)) old.log.items new.log.items x
-      (λ es next broke. record { begins = inl (subst (λ (z : List Task). BreaksOff f.rows z es next) (sym (serial_is present)) broke) })
+      halted_so (known old).most why (BreaksOff f.rows (map joins present)) (AreFewSerial f present lanes (state_behind old)) old.log.items new.log.items x
+      (λ es next broke. record { begins = inl (joining_breaks f.rows present lanes es next broke) })
 
-  pub settling_stopped : (present : List ℕ) (why : Stop) (old mid new : Session R K) → about mid ≡ about old → Did (map joins present) old mid → StoppedSettling mid new why → StoppedServing present old new why
-  settling_stopped present why old mid new same x y =
+  pub lanes_stopped : (present : List ℕ) (lanes : List (List Line)) (why : Stop) (old mid new : Session R K) → about mid ≡ about old → Did (map joins present) old mid → BrokeOff (flat_map lane_tasks lanes) mid new why
+      → StoppedServing present lanes old new why
+  lanes_stopped present lanes why old mid new same x y =
+      let f = rules_for old in
+      let Broke = λ (z : Fixed). BreaksOff z.rows (lanes_all lanes) in
+      halted_more (known old).most why (Leaves f.rows (map joins present) []) (Broke f) (AreFewSerial f present lanes (state_behind old)) old.log.items mid.log.items new.log.items x
+      (subst (λ (z : Fixed). Halted (known old).most why (Broke z) mid.log.items new.log.items) (rules_are old mid same)
+      (subst (λ (k : ℕ). Halted k why (Broke (rules_for mid)) mid.log.items new.log.items) (most_is old mid same) y))
+      (λ a b next _ p q. record { begins = inl (lanes_break f.rows present lanes a b next p q) })
+
+  pub settling_stopped : (present : List ℕ) (lanes : List (List Line)) (why : Stop) (old mid new : Session R K) → about mid ≡ about old → Followed (serial_tasks present lanes) old mid → StoppedSettling mid new why
+      → StoppedServing present lanes old new why
+  settling_stopped present lanes why old mid new same x y =
       let f = rules_for old in
       let s = state_behind old in
       let Few = AreFewRounds (rules_for mid) (state_behind mid) in
-      halted_more (known old).most why (Leaves f.rows (map joins present) []) Few (AreFewSerial f present s) old.log.items mid.log.items new.log.items x
+      halted_more (known old).most why (Follows f.rows (serial_tasks present lanes)) Few (AreFewSerial f present lanes s) old.log.items mid.log.items new.log.items x
       (subst (λ (k : ℕ). Halted k why Few mid.log.items new.log.items) (most_is old mid same) y)
       (λ a b next log acts settling.
       let now = behind_is f (rules_for mid) old.log.items mid.log.items a (rules_are old mid same) log in
-      let follows = subst (λ (z : List Task). Follows f.rows z a) (sym (serial_is present)) (follows_all f.rows (map joins present) a acts) in
       let rest = subst (λ (z : State). Unsettled rounds f 0 z b next) now (subst (λ (z : Fixed). Unsettled rounds z 0 (state_behind mid) b next) (rules_are old mid same) settling.unsettled) in
-      record { begins = inr (a, b, refl, follows, rest) })
+      record { begins = inr (a, b, refl, acts, rest) })
 
   -- ---- what settling comes to
 

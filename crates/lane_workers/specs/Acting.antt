@@ -1,5 +1,5 @@
 -- Those that act in a session.
-use Rattle.std.specs.Prelude.{◌≡◌, ℕ, Bool, true, List, map, All, IsSome, Some}
+use Rattle.std.specs.Prelude.{◌≡◌, ℕ, Bool, true, List, map, All, IsSome, Some, ⊤}
 use Rattle.std.specs.List.{slice_index_or, range_with_len}
 use Rattle.ring_spec.specs.Pairs.{Key, KeyFits}
 use Rattle.param_set.specs.declared.params.Params.{Params}
@@ -7,11 +7,13 @@ use Rattle.party_roll.specs.declared.party.Party.{Ghosts}
 use Rattle.party_roll.specs.declared.placed.Placed.{Placed}
 use Rattle.party_roll.specs.Values.{value_in}
 use Rattle.proto_names.specs.declared.signature.Signature.TheVariants.{Pk}
+use Rattle.session_rules.specs.declared.line.Line.{Line}
+use Rattle.session_rules.specs.declared.line.Line.TheVariants as line
 use Rattle.session_rules.specs.States.{State, plan, has_done}
 use Rattle.session_rules.specs.Steps.{is_input}
 use Rattle.session_spec.specs.Settings.{Setting, rules, value_at}
 use Rattle.session_spec.specs.Outputs.{key_in}
-use Rattle.session_core.specs.Sessions.{Known}
+use Rattle.session_core.specs.Sessions.{Known, IsParty}
 
 -- ---- a party
 
@@ -53,3 +55,19 @@ pub record IsKey (k : Known) (s : State) (key : Key) : Type 0 where
   pub complete : has_done Pk s.instances ≡ true
   pub fits : KeyFits k.params.q k.params.n key
   pub honest : k.tells ≡ true → key ≡ key_in k.setting k.seeds s.instances
+
+-- ---- a lane
+
+-- the party that a line names, if it does, is one of n
+abbrev pub IsLine : ℕ → Line → Type 0
+IsLine n (line.Join p) = IsParty n p
+IsLine n (line.Lose p) = IsParty n p
+IsLine n (line.Send p) = IsParty n p
+IsLine n (line.Hold p id) = IsParty n p
+IsLine n other = ⊤
+
+abbrev pub IsLane : ℕ → List Line → Type 0
+IsLane n lane = All (IsLine n) lane
+
+abbrev pub AreLanes : ℕ → List (List Line) → Type 0
+AreLanes n lanes = All (IsLane n) lanes

@@ -1,5 +1,5 @@
 -- What those that act in a session have called, and where they stop.
-use Rattle.std.specs.Prelude.{◌≡◌, ◌≢◌, ℕ, ◌+◌, ◌≤◌, Bool, true, false, ◌⊎◌, List, [], ◌∷◌, ◌++◌, length, map}
+use Rattle.std.specs.Prelude.{◌≡◌, ◌≢◌, ℕ, ◌+◌, ◌≤◌, Bool, true, false, ◌⊎◌, List, [], ◌∷◌, ◌++◌, length, map, Option, Some}
 use Rattle.party_roll.specs.declared.roll.Roll.{Ghosts}
 use Rattle.session_rules.specs.declared.call.Call.{Call}
 use Rattle.session_rules.specs.declared.call.Call.TheVariants as call
@@ -7,15 +7,19 @@ use Rattle.session_rules.specs.declared.call.Entry.{Entry}
 use Rattle.session_rules.specs.declared.fixed.Fixed.{Fixed}
 use Rattle.session_rules.specs.States.{State}
 use Rattle.session_rules.specs.Histories.{after, state_after}
-use Rattle.session_rules.specs.Tasks.{Task, exhausts, own}
+use Rattle.session_rules.specs.declared.line.Line.{Line}
+use Rattle.session_rules.specs.declared.line.Line.TheVariants as line
+use Rattle.session_rules.specs.Tasks.{Task, does, exhausts, Held, Left, next_call, left, own}
 use Rattle.share_spec.specs.Sets.{members}
-use Rattle.session_rules.specs.Courses.{sends, Follows, BreaksOff, serial_tasks, Settles, Unsettled, rounds}
+use Rattle.session_rules.specs.Courses.{to_do, sends, Follows, BreaksOff, serial_tasks, Settles, Unsettled, rounds}
 use Rattle.run_laws.specs.Leaving.{Leaves, idle}
 use Rattle.session_spec.specs.Settings.{rules}
 use Rattle.session_core.specs.Calls.{known, state_of}
 use Rattle.session_core.specs.declared.session.Session.{Session}
 use Rattle.session_core.specs.declared.stop.Stop.{Stop}
 use Rattle.session_core.specs.declared.stop.Stop.TheVariants.{Spent, NoMemory}
+use Rattle.lane_workers.specs.declared.holding.Holding.{Holding}
+use Rattle.lane_workers.specs.Hands.{in_hand}
 
 -- ---- what was called
 
@@ -30,13 +34,30 @@ pub record Acted (Are : List Entry → Type 0) (before now : List Entry) : Type 
 pub record AreRounds (f : Fixed) (s : State) (es : List Entry) : Type 0 where
   pub settles : Settles rounds f 0 s es
 
--- some parties join, and then they settle it
-pub record AreSerial (f : Fixed) (present : List ℕ) (s : State) (es : List Entry) : Type 0 where
+-- some parties join, lanes are followed one after the other, and then they settle it
+pub record AreSerial (f : Fixed) (present : List ℕ) (lanes : List (List Line)) (s : State) (es : List Entry) : Type 0 where
   pub acts : List Entry
   pub settling : List Entry
   pub parts : es ≡ acts ++ settling
-  pub follows : Follows f.rows (serial_tasks present []) acts
+  pub follows : Follows f.rows (serial_tasks present lanes) acts
   pub settles : Settles rounds f 0 (after f s acts) settling
+
+-- ---- with something in hand
+
+-- from what is in hand and to be done, entries lead to what is in hand and still to be done
+pub record Goes (l : ℕ) (from to : Left) (es : List Entry) : Type 0 where
+  pub goes : left l from es ≡ left l to []
+
+-- they are the first ones of such calls, and not all: this one is next
+pub record Cuts (l : ℕ) (from : Left) (es : List Entry) (next : Call) : Type 0 where
+  pub rest : Left
+  pub begins : left l from es ≡ Some rest
+  pub more : next_call rest ≡ Some next
+
+-- tasks are done but for these, whatever is in hand then
+pub record Passes (l : ℕ) (ts rest : List Task) (es : List Entry) : Type 0 where
+  pub hand : Option Held
+  pub goes : Goes l (to_do ts) (record { hand = hand; tasks = rest }) es
 
 -- ---- where it stops
 
@@ -65,16 +86,34 @@ pub record Halted (most : ℕ) (why : Stop) (Are : List Entry → Call → Type 
 pub record AreFewRounds (f : Fixed) (s : State) (es : List Entry) (next : Call) : Type 0 where
   pub unsettled : Unsettled rounds f 0 s es next
 
--- it stopped where parties join, or later where it settles
-abbrev pub StopsLater : Fixed → List ℕ → State → List Entry → Call → Type 0
-StopsLater f present s es next =
-    (acts : List Entry) × (settling : List Entry) × (es ≡ acts ++ settling) × Follows f.rows (serial_tasks present []) acts
+-- it stopped where parties join or in a lane, or later where it settles
+abbrev pub StopsLater : Fixed → List ℕ → List (List Line) → State → List Entry → Call → Type 0
+StopsLater f present lanes s es next =
+    (acts : List Entry) × (settling : List Entry) × (es ≡ acts ++ settling) × Follows f.rows (serial_tasks present lanes) acts
     × Unsettled rounds f 0 (after f s acts) settling next
 
-pub record AreFewSerial (f : Fixed) (present : List ℕ) (s : State) (es : List Entry) (next : Call) : Type 0 where
-  pub begins : BreaksOff f.rows (serial_tasks present []) es next ⊎ StopsLater f present s es next
+pub record AreFewSerial (f : Fixed) (present : List ℕ) (lanes : List (List Line)) (s : State) (es : List Entry) (next : Call) : Type 0 where
+  pub begins : BreaksOff f.rows (serial_tasks present lanes) es next ⊎ StopsLater f present lanes s es next
 
 -- ---- of a session
+
+-- the task of a line
+abbrev pub loses : ℕ → Task
+loses p = does (line.Lose p)
+
+abbrev pub works : Task
+works = does line.Work
+
+abbrev pub quits : Task
+quits = does line.Quit
+
+-- what is in hand, and a line to be done
+abbrev pub line_left : Option Held → Line → Left
+line_left hand x = record { hand = hand; tasks = does x ∷ [] }
+
+-- what is in hand, and nothing to be done
+abbrev pub at_end : Option Held → Left
+at_end hand = record { hand = hand; tasks = [] }
 
 -- what is to be done once a circuit was asked for: to ask again, if there was one
 abbrev pub again : Bool → List Task
@@ -93,9 +132,31 @@ module _ {R : Type 0} {K : Ghosts R} where
   abbrev pub BrokeOff : List Task → Session R K → Session R K → Stop → Type 0
   BrokeOff ts old new why = Halted (known old).most why (BreaksOff (rules (known old).setting).rows ts) old.log.items new.log.items
 
+  -- so from what is in hand
+  abbrev pub Going : Left → Left → Session R K → Session R K → Type 0
+  Going from to old new = Acted (Goes (rules (known old).setting).rows from to) old.log.items new.log.items
+
+  abbrev pub CutOff : Left → Session R K → Session R K → Stop → Type 0
+  CutOff from old new why = Halted (known old).most why (Cuts (rules (known old).setting).rows from) old.log.items new.log.items
+
+  -- a line is done, from what is in hand to what is in hand then
+  abbrev pub DidLine : Line → Option Holding → Session R K → Session R K → Option Holding → Type 0
+  DidLine x hand old new next = Going (line_left (in_hand (rules (known old).setting) hand) x) (at_end (in_hand (rules (known old).setting) next)) old new
+
+  abbrev pub StoppedLine : Line → Option Holding → Session R K → Session R K → Stop → Type 0
+  StoppedLine x hand old new why = CutOff (line_left (in_hand (rules (known old).setting) hand) x) old new why
+
+  -- tasks are done but for some, or all of them, whatever is in hand then
+  abbrev pub Passing : List Task → List Task → Session R K → Session R K → Type 0
+  Passing ts rest old new = Acted (Passes (rules (known old).setting).rows ts rest) old.log.items new.log.items
+
+  abbrev pub Followed : List Task → Session R K → Session R K → Type 0
+  Followed ts old new = Acted (Follows (rules (known old).setting).rows ts) old.log.items new.log.items
+
   -- a circuit was asked for, and evaluated if there was one
   pub record Worked (old new : Session R K) (more : Bool) : Type 0 where
     pub does : Doing (exhausts ∷ []) (again more) old new
+    pub line : Did (works ∷ []) old new
     pub fewer : more ≡ true → idle (state_of new) + 1 ≤ idle (state_of old)
 
   -- all that those who are present owe is to be sent
@@ -116,9 +177,10 @@ module _ {R : Type 0} {K : Ghosts R} where
   abbrev pub StoppedSettling : Session R K → Session R K → Stop → Type 0
   StoppedSettling old new why = Halted (known old).most why (AreFewRounds (rules_for old) (state_behind old)) old.log.items new.log.items
 
-  -- and so after some parties joined
-  abbrev pub Served : List ℕ → Session R K → Session R K → Type 0
-  Served present old new = Acted (AreSerial (rules_for old) present (state_behind old)) old.log.items new.log.items
+  -- and so after some parties joined and lanes were followed
+  abbrev pub Served : List ℕ → List (List Line) → Session R K → Session R K → Type 0
+  Served present lanes old new = Acted (AreSerial (rules_for old) present lanes (state_behind old)) old.log.items new.log.items
 
-  abbrev pub StoppedServing : List ℕ → Session R K → Session R K → Stop → Type 0
-  StoppedServing present old new why = Halted (known old).most why (AreFewSerial (rules_for old) present (state_behind old)) old.log.items new.log.items
+  abbrev pub StoppedServing : List ℕ → List (List Line) → Session R K → Session R K → Stop → Type 0
+  StoppedServing present lanes old new why =
+      Halted (known old).most why (AreFewSerial (rules_for old) present lanes (state_behind old)) old.log.items new.log.items

@@ -2,14 +2,18 @@
 //!
 //! A session is settled by rounds (docs/SESSION.md): in each the parties that are present at its start send what
 //! they owe, in the order of their numbers, and then all circuits that are ready are evaluated; rounds are made
-//! while an admitted circuit isn't answered, six at most. Each function says of the entries that it adds to the log
-//! that caller 0 alone made them, and which tasks they do, in the words of session_rules; where it stops, they are
-//! the first ones of these, and it says which call is next and why that wasn't made. Where the roll tells the
-//! parties' seeds, what is brought is what honest parties bring. Nothing is said of how much memory this takes.
+//! while an admitted circuit isn't answered, six at most. In the serial run the lanes of a script are served before
+//! that, one after the other, each with a hand of its own: what is in hand is the brief of an instance, from which the
+//! share is made whenever it is given. Each function says of the entries that it adds to the log that caller 0 alone
+//! made them, and which tasks they do, in the words of session_rules; where it stops, they are the first ones of
+//! these, and it says which call is next and why that wasn't made. Where the roll tells the parties' seeds, what is
+//! brought is what honest parties bring. Nothing is said of how much memory this takes.
 #![tactic(auto)]
 
+mod holding;
 mod joining;
 mod sending;
+mod serving;
 mod settling;
 mod working;
 

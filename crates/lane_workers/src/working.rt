@@ -1,7 +1,7 @@
 ghost use Rattle.std.specs.Prelude.{◌≡◌, [], ◌∷◌, IfOk, OnOk, IfErr};
 ghost use Rattle.session_rules.specs.Tasks.{exhausts};
 ghost use Rattle.session_core.specs.Calls.{known, about};
-ghost use Rattle.lane_workers.specs.Doing.{Did, BrokeOff, Worked};
+ghost use Rattle.lane_workers.specs.Doing.{Did, BrokeOff, Worked, works};
 
 use circuit_runner::evaluate;
 use mod_ring::Ring;
@@ -11,11 +11,16 @@ use std::alloc::Global;
 
 /// Takes the least circuit that is ready, and evaluates it; tells whether there was one. Where the memory for its
 /// output is wanting, the circuit stays taken.
-fn work<R: Roll>(alloc: Global, session: &mut Session<R>, ring: &Ring) -> Result<bool, Stop>
+pub(crate) fn work<R: Roll>(
+    alloc: Global,
+    session: &mut Session<R>,
+    ring: &Ring,
+) -> Result<bool, Stop>
     requires ring { ring.now.params ≡ (known session.old).params }
     ensures about { about session.new ≡ about session.old }
     ensures done { IfOk result (Worked session.old session.new) }
     ensures stopped { IfErr result (BrokeOff (exhausts ∷ []) session.old session.new) }
+    ensures line_stopped { IfErr result (BrokeOff (works ∷ []) session.old session.new) }
 {
     let Taking { reply: _, job } = session.take(alloc, 0)?;
     match job {

@@ -15,9 +15,9 @@ use Rattle.session_state.specs.Handed.{IsJobFor, CanEvaluate}
 use Rattle.session_core.specs.Sessions.{Known, BringsOutputTo}
 use Rattle.session_core.specs.Calls.{known, state_of, store_of}
 use Rattle.session_core.specs.declared.stop.Stop.TheVariants.{NoMemory}
-use Rattle.lane_workers.specs.Doing.{BrokeOff, rules_for, state_behind}
+use Rattle.lane_workers.specs.Doing.{BrokeOff, works, rules_for, state_behind}
 use Rattle.lane_workers.proofs.Going.{if_err, err_spent, known_is, begins, calls_on, stops_on, lacks_on}
-use Rattle.lane_workers.proofs.Asking.{job_owed, no_job_owed}
+use Rattle.lane_workers.proofs.Asking.{job_owed, no_job_owed, work_owed, no_work_owed}
 use Rattle.run_laws.proofs.Idle.{fewer_idle, take_issues}
 use Rattle.lane_workers.proofs.Bringing.{at_some, output_brought}
 use Rattle.lane_workers.proofs.working.work.Goals as goal
@@ -50,7 +50,7 @@ returns-in-None-clause-done g c =
     let mid = c.take.new.self in
     let r = c.in_ok-job.field-0.reply in
     let e : c.in_ok-job.field-0.job ≡ None = let x = c.in_ok-job.job-is in let y = c.in-None.is in cc in
-    record { does = no_job_owed r old old mid (begins (exhausts ∷ []) old) b.called.made (ap job (b.job.none e)); fewer = λ never. cc }
+    record { does = no_job_owed r old old mid (begins (exhausts ∷ []) old) b.called.made (ap job (b.job.none e)); line = no_work_owed r old mid b.called.made (ap job (b.job.none e)); fewer = λ never. cc }
 
 pub returns-in_ok-finish-in-Some-clause-done : goal.returns-in_ok-finish-in-Some-clause-done
 returns-in_ok-finish-in-Some-clause-done g c =
@@ -73,6 +73,7 @@ returns-in_ok-finish-in-Some-clause-done g c =
     let answered : job (step f (state_of old) 0 call.Take).0 ≡ Some j.number = ap (λ (z : State). job (step f z 0 call.Take).0) old.state_is ∙ ap job (sym b.called.made.reply) ∙ it in
     record {
       does = calls_on (exhausts ∷ []) (exhausts ∷ []) (finishes j.number) (call.Finish j.number) _ old mid new one refl refl d.called.made;
+      line = calls_on (works ∷ []) [] (finishes j.number) (call.Finish j.number) _ old mid new (work_owed j.number r old mid b.called.made it) refl refl d.called.made;
       fewer = λ more. fewer_idle f (state_of old) (state_of mid) (state_of new) j.number answered taken finished;
     }
 
@@ -113,3 +114,41 @@ returns-in_err-finish-in-Some-clause-stopped g c =
     let owed = job_owed j.number r old old mid (begins (exhausts ∷ []) old) b.called.made it in
     if_err c.from_residual-in_err-finish-in-Some.result _ (BrokeOff (exhausts ∷ []) old new) c.from_residual-in_err-finish-in-Some.ensures.1
     (stops_on (exhausts ∷ []) (exhausts ∷ []) (finishes j.number) (call.Finish j.number) _ old mid new b.called.about owed refl d.called.stopped (err_spent _ _ d.called.spent))
+
+pub returns-in_err-job-clause-line_stopped : goal.returns-in_err-job-clause-line_stopped
+returns-in_err-job-clause-line_stopped g c =
+    let old = c.args.session.now in
+    let new = c.take.new.self in
+    let e = c.in_err-job.ensures in
+    if_err c.from_residual.result _ (BrokeOff (works ∷ []) old new) c.from_residual.ensures.1
+    (stops_on (works ∷ []) [] works call.Take _ old old new refl (begins (works ∷ []) old) refl e.called.stopped (err_spent _ _ e.called.spent))
+
+pub returns-in_err-ct-in-Some-clause-line_stopped : goal.returns-in_err-ct-in-Some-clause-line_stopped
+returns-in_err-ct-in-Some-clause-line_stopped g c =
+    let b = c.in_ok-job.ensures in
+    let old = c.args.session.now in
+    let mid = c.take.new.self in
+    let r = c.in_ok-job.field-0.reply in
+    let j = c.in-Some.job in
+    let o = c.in_ok-job.field-0.job in
+    let e : o ≡ Some j = let x = c.in_ok-job.job-is in let y = c.in-Some.is in cc in
+    let it : job r ≡ Some j.number = ap job (at_some (λ (z : Job). r ≡ reply.Job z.number) o j e b.job.job) in
+    let owed = work_owed j.number r old mid b.called.made it in
+    if_err c.from_residual-in_err-ct-in-Some.result NoMemory (BrokeOff (works ∷ []) old mid) c.from_residual-in_err-ct-in-Some.ensures.1
+    (lacks_on (works ∷ []) [] (finishes j.number) (call.Finish j.number) NoMemory old mid owed refl refl refl)
+
+pub returns-in_err-finish-in-Some-clause-line_stopped : goal.returns-in_err-finish-in-Some-clause-line_stopped
+returns-in_err-finish-in-Some-clause-line_stopped g c =
+    let b = c.in_ok-job.ensures in
+    let d = c.in_err-finish-in-Some.ensures in
+    let old = c.args.session.now in
+    let mid = c.take.new.self in
+    let new = c.finish.new.self in
+    let r = c.in_ok-job.field-0.reply in
+    let j = c.in-Some.job in
+    let o = c.in_ok-job.field-0.job in
+    let e : o ≡ Some j = let x = c.in_ok-job.job-is in let y = c.in-Some.is in cc in
+    let it : job r ≡ Some j.number = ap job (at_some (λ (z : Job). r ≡ reply.Job z.number) o j e b.job.job) in
+    let owed = work_owed j.number r old mid b.called.made it in
+    if_err c.from_residual-in_err-finish-in-Some.result _ (BrokeOff (works ∷ []) old new) c.from_residual-in_err-finish-in-Some.ensures.1
+    (stops_on (works ∷ []) [] (finishes j.number) (call.Finish j.number) _ old mid new b.called.about owed refl d.called.stopped (err_spent _ _ d.called.spent))
