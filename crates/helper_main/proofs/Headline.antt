@@ -15,23 +15,23 @@ use Rattle.helper_main.specs.declared.work.Work.TheVariants.{Run}
 use Rattle.helper_main.specs.Works.{takes, owed, is_done, text_for}
 use Rattle.helper_main.specs.Runs.{serial_report}
 use Rattle.helper_main.specs.Owed.{Serves, Reports, Refuses, ReadsWhole, KeepsHeadline, HasHeadline, HoldsScript, IsDoneOr}
-use Rattle.helper_main.proofs.Taken.{run-free}
+use Rattle.helper_main.proofs.Taken.{taken-free}
 
 -- ---- the headline
 
-done_taken : (a : Asked) → is_done Run (Ok a) ≡ true → takes Run a ≡ true
+done_taken : (a : Asked) → is_done (Ok a) ≡ true → takes a ≡ true
 unfolding is_done
 done_taken a e = e
 
-owed_report : (a : Asked) → takes Run a ≡ true → owed Run (Ok a) ≡ report a (history a)
+owed_report : (a : Asked) → takes a ≡ true → owed Run (Ok a) ≡ report a (history a)
 unfolding owed text_for serial_report
 owed_report a e = rw e refl
 
-refused_undone : (refusal : Refusal) → is_done Run (Err refusal) ≡ true → ⊥
+refused_undone : (refusal : Refusal) → is_done (Err refusal) ≡ true → ⊥
 unfolding is_done
 refused_undone refusal done = both_ways false refl done
 
-keeps_by : (bytes : List ℕ) (left old new : Option (List ℕ)) (said : Result Asked Refusal) → ReadsWhole bytes left → script bytes ≡ said → is_done Run said ≡ true → Appends old new (owed Run said)
+keeps_by : (bytes : List ℕ) (left old new : Option (List ℕ)) (said : Result Asked Refusal) → ReadsWhole bytes left → script bytes ≡ said → is_done said ≡ true → Appends old new (owed Run said)
     → KeepsHeadline bytes left old new
 keeps_by bytes left old new (Err refusal) whole e done written = absurd (refused_undone refusal done)
 keeps_by bytes left old new (Ok a) whole e done written =
@@ -42,7 +42,7 @@ keeps_by bytes left old new (Ok a) whole e done written =
       read = whole;
       spelled = e;
       written = subst (λ (z : List ℕ). Appends old new z) (owed_report a taken) written;
-      headline = histories_keep_it bytes a e (run-free a taken);
+      headline = histories_keep_it bytes a e (taken-free a taken);
     }
 
 pub has_headline : (left left' old new : Option (List ℕ)) → Reports Run left left' old new → HasHeadline left left' old new
@@ -51,15 +51,15 @@ has_headline (Some bytes) left' old new r = keeps_by bytes left' old new (script
 
 -- ---- when a work is done
 
-refused_never : (work : Work) (left left' old new : Option (List ℕ)) → HoldsScript work left → Refuses work left left' old new → ⊥
+refused_never : (work : Work) (left left' old new : Option (List ℕ)) → HoldsScript left → Refuses work left left' old new → ⊥
 refused_never work None left' old new holds r = holds
 refused_never work (Some bytes) None old new holds (inl r) = r.0
 refused_never work (Some bytes) (Some rest) old new holds (inl r) = let few = holds.0 in let more = r.0 in omega (arith, few, more)
-refused_never work (Some bytes) left' old new holds (inr r) = both_ways (is_done work (script bytes)) r.1 holds.1
+refused_never work (Some bytes) left' old new holds (inr r) = both_ways (is_done (script bytes)) r.1 holds.1
 
 pub completes : (work : Work) (status : Status) (left left' old new : Option (List ℕ)) (reads reads' writes writes' : ℕ) → Serves work status left left' old new
     → (status ≡ Read → HasFault reads reads') → (status ≡ Write → HasFault writes writes')
-    → HoldsScript work left → (HasFault reads reads' → ⊥) → (HasFault writes writes' → ⊥) → IsDoneOr status
+    → HoldsScript left → (HasFault reads reads' → ⊥) → (HasFault writes writes' → ⊥) → IsDoneOr status
 completes work Done left left' old new reads reads' writes writes' serves read write holds no_read no_write = inl refl
 completes work Usage left left' old new reads reads' writes writes' serves read write holds no_read no_write = absurd serves
 completes work Script left left' old new reads reads' writes writes' serves read write holds no_read no_write = absurd (refused_never work left left' old new holds serves)

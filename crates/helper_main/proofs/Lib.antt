@@ -1,4 +1,5 @@
 mod Bytes
+mod Fitting
 mod Inputs
 mod Party
 mod Logged

@@ -7,7 +7,7 @@ use Rattle.session_rules.specs.declared.fixed.Fixed.{Fixed}
 use Rattle.session_rules.specs.declared.line.Line.{Line}
 use Rattle.session_rules.specs.Histories.{after, state_after, IsLegal}
 use Rattle.session_rules.specs.Tasks.{own}
-use Rattle.session_rules.specs.Courses.{IsSerial, serial_run}
+use Rattle.session_rules.specs.Courses.{IsSerial}
 use Rattle.run_laws.specs.Alone.{Stops, in_lanes, in_rounds}
 use Rattle.run_laws.specs.Lengths.{most_calls as most_of_course}
 use Rattle.run_laws.proofs.Serial.{serial_is_only}
@@ -27,9 +27,9 @@ use Rattle.headline.proofs.Small.{short}
 -- ---- the whole run
 
 -- what a run from no call on has called is the serial course
-serial_from : (f : Fixed) (present : List ℕ) (now : List Entry) → Acted (AreSerial f present (state_after f [])) [] now → IsSerial f present [] now
+serial_from : (f : Fixed) (present : List ℕ) (lanes : List (List Line)) (now : List Entry) → Acted (AreSerial f present lanes (state_after f [])) [] now → IsSerial f present lanes now
 unfolding after
-serial_from f present now h =
+serial_from f present lanes now h =
     let same : now ≡ h.made = h.log in
     record {
       acts = h.are.acts;
@@ -41,49 +41,50 @@ serial_from f present now h =
     }
 
 -- so its log is the history
-log_from : (a : Asked) (now : List Entry) → a.lanes ≡ [] → IsLegal (rules_asked a) now → length now ≤ most_calls
-    → Acted (AreSerial (rules_asked a) a.present (state_after (rules_asked a) [])) [] now → now ≡ history a
+log_from : (a : Asked) (now : List Entry) → IsLegal (rules_asked a) now → length now ≤ most_calls
+    → Acted (AreSerial (rules_asked a) a.present a.lanes (state_after (rules_asked a) [])) [] now → now ≡ history a
 unfolding history
-log_from a now none legal few h =
+log_from a now legal few h =
     let f = rules_asked a in
-    serial_is_only most_calls f a.present [] now legal (serial_from f a.present now h) few
-    ∙ ap (λ (ls : List (List Line)). serial_run most_calls f a.present ls) (sym none)
+    serial_is_only most_calls f a.present a.lanes now legal (serial_from f a.present a.lanes now h) few
 
-pub log_is : (a : Asked) (old new : Setting) (before now : List Entry) (present : List ℕ) → old ≡ setting_asked a → new ≡ setting_asked a → before ≡ [] → present ≡ a.present → a.lanes ≡ []
-    → IsLegal (rules new) now → length now ≤ most_calls → Acted (AreSerial (rules old) present (state_after (rules old) before)) before now → now ≡ history a
-log_is a old new before now present is later first here none legal few h =
-    log_from a now none (subst (λ (w : Setting). IsLegal (rules w) now) later legal) few
-    (subst (λ (ps : List ℕ). Acted (AreSerial (rules_asked a) ps (state_after (rules_asked a) [])) [] now) here
-    (subst (λ (es : List Entry). Acted (AreSerial (rules_asked a) present (state_after (rules_asked a) es)) es now) first
-    (subst (λ (w : Setting). Acted (AreSerial (rules w) present (state_after (rules w) before)) before now) is h)))
+pub log_is : (a : Asked) (old new : Setting) (before now : List Entry) (present : List ℕ) (lanes : List (List Line)) → old ≡ setting_asked a → new ≡ setting_asked a → before ≡ [] → present ≡ a.present → lanes ≡ a.lanes
+    → IsLegal (rules new) now → length now ≤ most_calls → Acted (AreSerial (rules old) present lanes (state_after (rules old) before)) before now → now ≡ history a
+log_is a old new before now present lanes is later first here there legal few h =
+    log_from a now (subst (λ (w : Setting). IsLegal (rules w) now) later legal) few
+    (subst (λ (ls : List (List Line)). Acted (AreSerial (rules_asked a) a.present ls (state_after (rules_asked a) [])) [] now) there
+    (subst (λ (ps : List ℕ). Acted (AreSerial (rules_asked a) ps lanes (state_after (rules_asked a) [])) [] now) here
+    (subst (λ (es : List Entry). Acted (AreSerial (rules_asked a) present lanes (state_after (rules_asked a) es)) es now) first
+    (subst (λ (w : Setting). Acted (AreSerial (rules w) present lanes (state_after (rules w) before)) before now) is h))))
 
 -- ---- a run that stopped
 
-stops_from : (f : Fixed) (present : List ℕ) (es : List Entry) (next : Call) → AreFewSerial f present (state_after f []) es next → Stops f present [] es next
+stops_from : (f : Fixed) (present : List ℕ) (lanes : List (List Line)) (es : List Entry) (next : Call) → AreFewSerial f present lanes (state_after f []) es next → Stops f present lanes es next
 unfolding after
-stops_from f present es next h = elim h.begins [
+stops_from f present lanes es next h = elim h.begins [
   | inl early ↦ in_lanes early
   | inr later ↦ in_rounds later.0 later.1 later.2 later.3 later.4
 ]
 
-full_from : (a : Asked) (now : List Entry) → IsAccepted a → a.lanes ≡ [] → IsLegal (rules_asked a) now
-    → Halted most_calls Spent (AreFewSerial (rules_asked a) a.present (state_after (rules_asked a) [])) [] now → ⊥
-full_from a now accepted none legal h =
+full_from : (a : Asked) (now : List Entry) → IsAccepted a → IsLegal (rules_asked a) now
+    → Halted most_calls Spent (AreFewSerial (rules_asked a) a.present a.lanes (state_after (rules_asked a) [])) [] now → ⊥
+full_from a now accepted legal h =
     let f = rules_asked a in
     let same : now ≡ h.made = h.log in
-    let stops = stops_from f a.present h.made h.next h.are in
-    let few = course_stops_short f a.present [] h.made h.next (whole a) (subst (λ (z : List Entry). IsLegal f z) same legal) h.alone stops in
-    let most : most_of_course f a.present [] < 8388608 = subst (λ (ls : List (List Line)). most_of_course f a.present ls < 8388608) none (short a accepted) in
+    let stops = stops_from f a.present a.lanes h.made h.next h.are in
+    let few = course_stops_short f a.present a.lanes h.made h.next (whole a) (subst (λ (z : List Entry). IsLegal f z) same legal) h.alone stops in
+    let most : most_of_course f a.present a.lanes < 8388608 = short a accepted in
     let full : length now ≡ most_calls = h.reason in
     let long : length now ≡ length h.made = ap length same in
     absurd (omega (arith, few, most, full, long))
 
-pub never_full : (a : Asked) (old new : Setting) (before now : List Entry) (present : List ℕ) (most : ℕ) (why : Stop) → IsAccepted a → old ≡ setting_asked a → new ≡ setting_asked a → before ≡ [] → present ≡ a.present
-    → a.lanes ≡ [] → most ≡ most_calls → IsLegal (rules new) now → why ≡ Spent → Halted most why (AreFewSerial (rules old) present (state_after (rules old) before)) before now → ⊥
-never_full a old new before now present most why accepted is later first here none room legal full h =
-    full_from a now accepted none (subst (λ (w : Setting). IsLegal (rules w) now) later legal)
-    (subst (λ (x : Stop). Halted most_calls x (AreFewSerial (rules_asked a) a.present (state_after (rules_asked a) [])) [] now) full
-    (subst (λ (m : ℕ). Halted m why (AreFewSerial (rules_asked a) a.present (state_after (rules_asked a) [])) [] now) room
-    (subst (λ (ps : List ℕ). Halted most why (AreFewSerial (rules_asked a) ps (state_after (rules_asked a) [])) [] now) here
-    (subst (λ (es : List Entry). Halted most why (AreFewSerial (rules_asked a) present (state_after (rules_asked a) es)) es now) first
-    (subst (λ (w : Setting). Halted most why (AreFewSerial (rules w) present (state_after (rules w) before)) before now) is h)))))
+pub never_full : (a : Asked) (old new : Setting) (before now : List Entry) (present : List ℕ) (lanes : List (List Line)) (most : ℕ) (why : Stop) → IsAccepted a → old ≡ setting_asked a → new ≡ setting_asked a → before ≡ [] → present ≡ a.present
+    → lanes ≡ a.lanes → most ≡ most_calls → IsLegal (rules new) now → why ≡ Spent → Halted most why (AreFewSerial (rules old) present lanes (state_after (rules old) before)) before now → ⊥
+never_full a old new before now present lanes most why accepted is later first here there room legal full h =
+    full_from a now accepted (subst (λ (w : Setting). IsLegal (rules w) now) later legal)
+    (subst (λ (x : Stop). Halted most_calls x (AreFewSerial (rules_asked a) a.present a.lanes (state_after (rules_asked a) [])) [] now) full
+    (subst (λ (m : ℕ). Halted m why (AreFewSerial (rules_asked a) a.present a.lanes (state_after (rules_asked a) [])) [] now) room
+    (subst (λ (ls : List (List Line)). Halted most why (AreFewSerial (rules_asked a) a.present ls (state_after (rules_asked a) [])) [] now) there
+    (subst (λ (ps : List ℕ). Halted most why (AreFewSerial (rules_asked a) ps lanes (state_after (rules_asked a) [])) [] now) here
+    (subst (λ (es : List Entry). Halted most why (AreFewSerial (rules_asked a) present lanes (state_after (rules_asked a) es)) es now) first
+    (subst (λ (w : Setting). Halted most why (AreFewSerial (rules w) present lanes (state_after (rules w) before)) before now) is h))))))

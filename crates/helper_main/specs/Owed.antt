@@ -42,7 +42,7 @@ ReadsWhole bytes left = (left ≡ Some []) × (length bytes ≤ most_bytes)
 abbrev pub Reports : Work → Option (List ℕ) → Option (List ℕ) → Option (List ℕ) → Option (List ℕ) → Type 0
 Reports work None left old new = ⊤
 Reports work (Some bytes) left old new =
-    ReadsWhole bytes left × (is_done work (script bytes) ≡ true) × Appends old new (owed work (script bytes))
+    ReadsWhole bytes left × (is_done (script bytes) ≡ true) × Appends old new (owed work (script bytes))
 
 -- Script: more bytes were read than a script may have, or they spell none that is taken; the line that
 -- says which, and where, was written
@@ -50,7 +50,7 @@ abbrev pub Refuses : Work → Option (List ℕ) → Option (List ℕ) → Option
 Refuses work None left old new = ⊤
 Refuses work (Some bytes) left old new =
     (TakesMoreThan bytes left most_bytes × Appends old new refused_long)
-    ⊎ (ReadsWhole bytes left × (is_done work (script bytes) ≡ false) × Appends old new (owed work (script bytes)))
+    ⊎ (ReadsWhole bytes left × (is_done (script bytes) ≡ false) × Appends old new (owed work (script bytes)))
 
 -- Write: a first part of what is owed for the bytes was written, and not all of it
 abbrev pub Breaks : Work → Option (List ℕ) → Option (List ℕ) → Option (List ℕ) → Option (List ℕ) → Type 0
@@ -99,10 +99,10 @@ HasHeadline (Some bytes) left old new = KeepsHeadline bytes left old new
 
 -- ---- when a work is done
 
--- the source has a script with which the work is done, and no more
-abbrev pub HoldsScript : Work → Option (List ℕ) → Type 0
-HoldsScript work None = ⊥
-HoldsScript work (Some bytes) = (length bytes ≤ most_bytes) × (is_done work (script bytes) ≡ true)
+-- the source has a script that is taken, and no more
+abbrev pub HoldsScript : Option (List ℕ) → Type 0
+HoldsScript None = ⊥
+HoldsScript (Some bytes) = (length bytes ≤ most_bytes) × (is_done (script bytes) ≡ true)
 
 -- it is done, or memory was wanting
 abbrev pub IsDoneOr : Status → Type 0

@@ -1,5 +1,5 @@
 -- What is done with a script: which scripts are taken, and the text that is owed for one.
-use Rattle.std.specs.Prelude.{ℕ, ◌==◌, ◌&&◌, Bool, false, if◌then◌else◌, List, length, codes, Result, Ok, Err}
+use Rattle.std.specs.Prelude.{ℕ, Bool, false, if◌then◌else◌, List, codes, Result, Ok, Err}
 use Rattle.session_script.specs.Asked.{Asked}
 use Rattle.session_script.specs.Scripts.{Refusal}
 use Rattle.run_report.specs.Refusals.{refusal_line}
@@ -11,11 +11,9 @@ use Rattle.helper_main.specs.Runs.{serial_report}
 
 -- ---- which scripts
 
--- whether a script is taken for a work: no circuit has a rotation or a product of two nodes neither of which is a
--- constant, and what is run has no lanes
-unfoldable pub takes : Work → Asked → Bool
-takes Run a = (length a.lanes == 0) && are_free a.circuits
-takes Check a = are_free a.circuits
+-- whether a script is taken: no circuit has a rotation or a product of two nodes neither of which is a constant
+unfoldable pub takes : Asked → Bool
+takes a = are_free a.circuits
 
 -- ---- what is owed
 
@@ -29,10 +27,10 @@ refused_form = codes "refused form\n"
 
 -- the text for bytes that were read whole, by what they spell
 unfoldable pub owed : Work → Result Asked Refusal → List ℕ
-owed work (Ok a) = if takes work a then text_for work a else refused_form
+owed work (Ok a) = if takes a then text_for work a else refused_form
 owed work (Err refusal) = refusal_line refusal.line refusal.reason
 
--- whether the work is done for them
-unfoldable pub is_done : Work → Result Asked Refusal → Bool
-is_done work (Ok a) = takes work a
-is_done work (Err refusal) = false
+-- whether a work is done for them
+unfoldable pub is_done : Result Asked Refusal → Bool
+is_done (Ok a) = takes a
+is_done (Err refusal) = false

@@ -21,7 +21,7 @@ pub(crate) struct Answer {
 /// The text for a script that is taken.
 #[tactic(auto, unfolding(crate::specs::Works::text_for))]
 fn text_for(alloc: Global, work: Work, script: &Script) -> Result<Vec<u8>, AllocError>
-    requires taken { takes work (asked script.now) ≡ true }
+    requires taken { takes (asked script.now) ≡ true }
     requires accepted { IsAccepted (asked script.now) }
     ensures { IfOk result (λ text. text.items ≡ text_for work (asked script.now)) }
 {
@@ -36,9 +36,9 @@ fn text_for(alloc: Global, work: Work, script: &Script) -> Result<Vec<u8>, Alloc
 fn for_script(alloc: Global, work: Work, script: &Script) -> Result<Answer, AllocError>
     requires accepted { IsAccepted (asked script.now) }
     ensures text { IfOk result (λ o. o.text.items ≡ owed work (Ok (asked script.now))) }
-    ensures done { IfOk result (λ o. o.is_done ≡ is_done work (Ok (asked script.now))) }
+    ensures done { IfOk result (λ o. o.is_done ≡ is_done (Ok (asked script.now))) }
 {
-    if takes(work, script) {
+    if takes(script) {
         Ok(Answer {
             text: text_for(alloc, work, script)?,
             is_done: true,
@@ -56,7 +56,7 @@ fn for_script(alloc: Global, work: Work, script: &Script) -> Result<Answer, Allo
 pub(crate) fn owed(alloc: Global, work: Work, bytes: &[u8]) -> Result<Answer, AllocError>
     requires { length bytes.now ≤ most_bytes }
     ensures text { IfOk result (λ o. o.text.items ≡ owed work (script_of bytes.now)) }
-    ensures done { IfOk result (λ o. o.is_done ≡ is_done work (script_of bytes.now)) }
+    ensures done { IfOk result (λ o. o.is_done ≡ is_done (script_of bytes.now)) }
 {
     match read_script(alloc, bytes) {
         Ok(script) => for_script(alloc, work, &script),

@@ -35,12 +35,11 @@ fn opened(alloc: Global, ring: &Arc<Ring>, script: &Script) -> Result<Session<Se
     Session::new(alloc, roll, Arc::try_clone(ring)?, circuits, MOST_CALLS)
 }
 
-/// Runs a script's session by one caller: those that are present join, and the session is settled.
+/// Runs a script's session by one caller: those that are present join, its lanes are served, and it is settled.
 fn run(alloc: Global, ring: &Arc<Ring>, script: &Script) -> Result<Session<SeedRoll>, AllocError>
     requires ring { ring.now.value.params ≡ script.now.params }
     requires free { are_free script.now.circuits ≡ true }
     requires accepted { IsAccepted (asked script.now) }
-    requires no_lanes { (asked script.now).lanes ≡ [] }
     ensures setting { IfOk result (λ s. setting s.standing ≡ setting_asked (asked script.now)) }
     ensures master { IfOk result (λ s. s.roll.master ≡ script.now.master) }
     ensures log { IfOk result (λ s. s.log.items ≡ history (asked script.now)) }
@@ -54,6 +53,7 @@ fn run(alloc: Global, ring: &Arc<Ring>, script: &Script) -> Result<Session<SeedR
         ring,
         parties.as_slice(),
         script.present.as_slice(),
+        script.lanes.as_slice(),
     ) {
         Ok(()) => Ok(session),
         Err(Stop::NoMemory) => Err(AllocError),
@@ -65,7 +65,6 @@ fn run(alloc: Global, ring: &Arc<Ring>, script: &Script) -> Result<Session<SeedR
 pub(crate) fn report(alloc: Global, script: &Script) -> Result<Vec<u8>, AllocError>
     requires free { are_free script.now.circuits ≡ true }
     requires accepted { IsAccepted (asked script.now) }
-    requires no_lanes { (asked script.now).lanes ≡ [] }
     ensures { IfOk result (λ text. text.items ≡ serial_report (asked script.now)) }
 {
     let ring = Arc::new(alloc, Ring::new(alloc, &script.params)?)?;

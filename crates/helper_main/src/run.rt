@@ -28,9 +28,9 @@ pub(crate) fn put<K: Sink>(sink: &mut K, text: &[u8]) -> bool
 /// Answers the bytes of a script that was read whole.
 fn answer<K: Sink>(alloc: Global, work: Work, bytes: &[u8], sink: &mut K) -> Status
     requires { length bytes.now ≤ most_bytes }
-    ensures done { result ≡ Status.Done → (is_done work (script bytes.now) ≡ true)
+    ensures done { result ≡ Status.Done → (is_done (script bytes.now) ≡ true)
         × Appends (K.taken sink.old) (K.taken sink.new) (owed work (script bytes.now)) }
-    ensures script { result ≡ Status.Script → (is_done work (script bytes.now) ≡ false)
+    ensures script { result ≡ Status.Script → (is_done (script bytes.now) ≡ false)
         × Appends (K.taken sink.old) (K.taken sink.new) (owed work (script bytes.now)) }
     ensures write { result ≡ Status.Write
         → WritesPart (K.taken sink.old) (K.taken sink.new) (owed work (script bytes.now))
@@ -90,7 +90,7 @@ pub fn run_serial<S: Source, K: Sink>(alloc: Global, source: &mut S, sink: &mut 
         (K.taken sink.new) }
     ensures serves { Serves Work.Run result (S.left source.old) (S.left source.new)
         (K.taken sink.old) (K.taken sink.new) }
-    ensures complete { HoldsScript Work.Run (S.left source.old)
+    ensures complete { HoldsScript (S.left source.old)
         → (HasFault (S.faults source.old) (S.faults source.new) → ⊥)
         → (HasFault (K.faults sink.old) (K.faults sink.new) → ⊥) → IsDoneOr result }
     ensures read { result ≡ Status.Read → HasFault (S.faults source.old) (S.faults source.new) }
@@ -109,7 +109,7 @@ pub fn run_serial<S: Source, K: Sink>(alloc: Global, source: &mut S, sink: &mut 
 pub fn run_check<S: Source, K: Sink>(alloc: Global, source: &mut S, sink: &mut K) -> Status
     ensures serves { Serves Work.Check result (S.left source.old) (S.left source.new)
         (K.taken sink.old) (K.taken sink.new) }
-    ensures complete { HoldsScript Work.Check (S.left source.old)
+    ensures complete { HoldsScript (S.left source.old)
         → (HasFault (S.faults source.old) (S.faults source.new) → ⊥)
         → (HasFault (K.faults sink.old) (K.faults sink.new) → ⊥) → IsDoneOr result }
     ensures read { result ≡ Status.Read → HasFault (S.faults source.old) (S.faults source.new) }

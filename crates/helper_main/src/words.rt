@@ -54,7 +54,7 @@ pub fn run_words<S: Source, K: Sink>(
         → Serves work result (S.left source.old) (S.left source.new) (K.taken sink.old)
         (K.taken sink.new) }
     ensures complete { (work : Work) → map string_bytes words.now ≡ words_of work
-        → HoldsScript work (S.left source.old)
+        → HoldsScript (S.left source.old)
         → (HasFault (S.faults source.old) (S.faults source.new) → ⊥)
         → (HasFault (K.faults sink.old) (K.faults sink.new) → ⊥) → IsDoneOr result }
     ensures usage { ((work : Work) → map string_bytes words.now ≡ words_of work → ⊥)

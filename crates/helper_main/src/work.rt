@@ -30,14 +30,11 @@ fn are_free(circuits: &NamedCircuits) -> bool
     circuits.as_slice().iter().all(|named| is_free(named))
 }
 
-/// Whether a script is one with which the work is done: no circuit has a rotation or a product of two
-/// nodes neither of which is a constant, and what is run has no lanes.
+/// Whether a script is taken: no circuit has a rotation or a product of two nodes neither of which is a
+/// constant.
 #[tactic(auto, unfolding(crate::specs::Works::takes))]
-pub(crate) fn takes(work: Work, script: &Script) -> bool
-    ensures { result ≡ takes work (asked script.now) }
+pub(crate) fn takes(script: &Script) -> bool
+    ensures { result ≡ takes (asked script.now) }
 {
-    match work {
-        Work::Run => script.lanes.len() == 0 && are_free(&script.circuits),
-        Work::Check => are_free(&script.circuits),
-    }
+    are_free(&script.circuits)
 }

@@ -20,6 +20,13 @@ const PRODUCT: &str = "circuit c\ninput 1 3 0 1\ninput 2 5\nmul 0 1\nend\n";
 
 const ROTATION: &str = "circuit c\ninput 1 0 0 0 1\nrot 3 0\nend\n";
 
+/// A sum of which party 2 owns nothing.
+const ENDS: &str = "circuit c\ninput 1 3 0 1\ninput 3 5\nadd 0 1\nend\n";
+
+const SEVENS: &str = "circuit c\nconst 7\nend\ncircuit d\nconst 7\nend\n";
+
+const FOUR: &str = "params 8 31525197391593473 16 3 8 1 1 4 2";
+
 const SEVERAL: &str = "\
 # Three circuits side by side.
 circuit sum
@@ -267,6 +274,114 @@ fn runs_circuits(rt: HostRuntime) -> Result<(), Fail> {
     Ok(())
 }
 
+/// What the program writes for a run of a script, which it ends well.
+fn report_of(alloc: Global, script: &str) -> Result<Option<Vec<u8>>, AllocError> {
+    let mut source = source_of(alloc, script.as_bytes(), &[])?;
+    let mut sink = sink_of(alloc, &[])?;
+    let ended = run(alloc, Work::Run, &mut source, &mut sink)?;
+    Ok((ended == Status::Done).then_some(Vec::from_slice(alloc, sink.bytes())?))
+}
+
+/// Whether the program makes a report of a script that begins with these lines, has so many of instances and of
+/// events, and so many that begin like this one.
+fn reports_lanes(
+    alloc: Global,
+    script: &str,
+    text: &str,
+    (instances, events): (usize, usize),
+    (line, times): (&str, usize),
+) -> Result<bool, AllocError> {
+    let report = report_of(alloc, script)?;
+    Ok(match &report {
+        None => false,
+        Some(report) => {
+            shows(report.as_slice(), text, instances, events)
+                && lines_with(report.as_slice(), line) == times
+        }
+    })
+}
+
+#[test]
+fn runs_lanes(rt: HostRuntime) -> Result<(), Fail> {
+    let alloc = rt.alloc();
+    for (params, present, circuits, lanes, text, sizes, line) in [
+        // a party is lost after its share was counted, and before
+        (
+            THREE,
+            "1 2 3",
+            ENDS,
+            "lane\nsend 2\nlose 2\nend\n",
+            "circuit c = 8 0 1\n",
+            (2, 26),
+            ("instance 1 pk 1,2 attempt 1 complete", 1),
+        ),
+        (
+            THREE,
+            "1 2 3",
+            ENDS,
+            "lane\nsend 1\nlose 2\nend\n",
+            "circuit c = 8 0 1\n",
+            (3, 28),
+            ("instance 2 pk 1,3 attempt 2 complete", 1),
+        ),
+        // a late share, a repeated one, and one of a party that doesn't take part
+        (
+            THREE,
+            "1 2 3",
+            ENDS,
+            "lane\nhold 2 1\nlose 2\ngive\njoin 2\nhold 1 2\ngive\ngive\nhold 2 2\ngive\nend\n",
+            "circuit c = 8 0 1\n",
+            (3, 34),
+            ("event 0 deliver 2 1 1 repeat", 1),
+        ),
+        // too few are left
+        (
+            THREE,
+            "1 2 3",
+            ENDS,
+            "lane\nsend 1\nsend 2\nsend 1\nsend 3\nwork\nlose 2\nlose 3\nend\n",
+            "circuit c open\n",
+            (3, 29),
+            ("instance 3 dec0 1,3 attempt 2 void by 3", 1),
+        ),
+        // a circuit is given back, and workers take both; the second decryption goes to those who owe nothing
+        (
+            FOUR,
+            "1 2 3 4",
+            SEVENS,
+            "lane\nquit\nend\nworkers 1 2\n",
+            "circuit c = 7\ncircuit d = 7\n",
+            (2, 23),
+            ("instance 2 dec1 3,4 attempt 1 complete", 1),
+        ),
+        // nothing is in hand, also where no brief was had, and no lane begins with what another held
+        (
+            THREE,
+            "1 2",
+            SUM,
+            "lane\nlose 3\ngive\nhold 1 9\ngive\nquit\nend\nlane\ngive\nwork\nend\n",
+            "circuit c = 8 0 1\n",
+            (2, 27),
+            ("event 0 brief 9 unknown 1", 1),
+        ),
+        (
+            THREE,
+            "",
+            SUM,
+            "lane\njoin 1\njoin 1\njoin 2\nend\nlane\nend\n",
+            "circuit c = 8 0 1\n",
+            (2, 24),
+            ("event 0 join 1 already", 1),
+        ),
+    ] {
+        let rest = format!(in alloc; "{circuits}{lanes}")?;
+        let script = script(alloc, params, present, rest.as_str())?;
+        let so = reports_lanes(alloc, script.as_str(), text, sizes, line)?;
+        assert!(rt; so, "{lanes}");
+    }
+    Ok(())
+}
+
 #[test]
 fn checks_circuits(rt: HostRuntime) -> Result<(), Fail> {
     let alloc = rt.alloc();
@@ -313,14 +428,6 @@ fn checks_circuits(rt: HostRuntime) -> Result<(), Fail> {
         assert!(rt; so, "{text}");
     }
     Ok(())
-}
-
-/// What the program writes for a run of a script, which it ends well.
-fn report_of(alloc: Global, script: &str) -> Result<Option<Vec<u8>>, AllocError> {
-    let mut source = source_of(alloc, script.as_bytes(), &[])?;
-    let mut sink = sink_of(alloc, &[])?;
-    let ended = run(alloc, Work::Run, &mut source, &mut sink)?;
-    Ok((ended == Status::Done).then_some(Vec::from_slice(alloc, sink.bytes())?))
 }
 
 /// Where no key switches both versions run alike.
@@ -374,8 +481,6 @@ fn refuses_scripts(rt: HostRuntime) -> Result<(), Fail> {
         (Work::Check, THREE, PRODUCT, "refused form\n"),
         (Work::Run, THREE, ROTATION, "refused form\n"),
         (Work::Check, THREE, ROTATION, "refused form\n"),
-        (Work::Run, THREE, "lane\nend\n", "refused form\n"),
-        (Work::Run, THREE, "workers 2 0\n", "refused form\n"),
     ] {
         let script = (params, "1 2", rest);
         let so = answers_script(alloc, work, script, Status::Script, text)?;

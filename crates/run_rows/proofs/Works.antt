@@ -48,11 +48,10 @@ pub free : (is_free sum ≡ true) × (is_free scaled ≡ true) × (is_free turne
 unfolding is_switch_free
 free = (refl, refl, refl, refl, refl, refl, refl)
 
--- with neither; with a rotation; with a product; with a lane, which `check` takes
-pub taken : (takes Run (about (sum ∷ scaled ∷ [])) ≡ true) × (takes Run (about (sum ∷ turned ∷ [])) ≡ false) × (takes Run (about (squared ∷ [])) ≡ false) × (takes Run (with_lane (sum ∷ [])) ≡ false)
-    × (takes Check (about (sum ∷ scaled ∷ [])) ≡ true) × (takes Check (about (sum ∷ turned ∷ [])) ≡ false) × (takes Check (about (squared ∷ [])) ≡ false) × (takes Check (with_lane (sum ∷ [])) ≡ true)
+-- with neither; with a rotation; with a product; with a lane
+pub taken : (takes (about (sum ∷ scaled ∷ [])) ≡ true) × (takes (about (sum ∷ turned ∷ [])) ≡ false) × (takes (about (squared ∷ [])) ≡ false) × (takes (with_lane (sum ∷ [])) ≡ true)
 unfolding takes is_switch_free
-taken = (refl, refl, refl, refl, refl, refl, refl, refl)
+taken = (refl, refl, refl, refl)
 
 -- ---- what is owed
 
@@ -64,9 +63,9 @@ pub owed_for_refused : (owed Run refusal ≡ codes "refused line 1 end\n") × (o
 unfolding owed refusal_line reason_text digits
 owed_for_refused = (refl, refl)
 
-pub owed_for_others : (owed Run (Ok (about (turned ∷ []))) ≡ codes "refused form\n") × (owed Run (Ok (with_lane [])) ≡ codes "refused form\n") × (owed Check (Ok (about (turned ∷ []))) ≡ codes "refused form\n")
+pub owed_for_others : (owed Run (Ok (about (turned ∷ []))) ≡ codes "refused form\n") × (owed Check (Ok (about (turned ∷ []))) ≡ codes "refused form\n")
 unfolding owed takes is_switch_free
-owed_for_others = (refl, refl, refl)
+owed_for_others = (refl, refl)
 
 check_is_owed : owed Check (Ok (about (sum ∷ []))) ≡ check_text (about (sum ∷ []))
 unfolding owed takes text_for is_switch_free
@@ -75,17 +74,17 @@ check_is_owed = refl
 pub owed_for_check : owed Check (Ok (about (sum ∷ []))) ≡ codes "limit 985162418487295\ncircuit c\nnode 0 41\nnode 1 41\nnode 2 83\noutput 85\nplain 8 0 1\n"
 owed_for_check = check_is_owed ∙ checked
 
-turned_is_not_done : is_done Check (Ok (about (turned ∷ []))) ≡ false
+turned_is_not_done : is_done (Ok (about (turned ∷ []))) ≡ false
 unfolding is_done takes is_switch_free
 turned_is_not_done = refl
 
-sum_is_done : is_done Check (Ok (about (sum ∷ []))) ≡ true
+sum_is_done : is_done (Ok (about (sum ∷ []))) ≡ true
 unfolding is_done takes is_switch_free
 sum_is_done = refl
 
-pub done : (is_done Run refusal ≡ false) × (is_done Run (Ok (about (turned ∷ []))) ≡ false) × (is_done Run (Ok (about (sum ∷ []))) ≡ true) × (is_done Check (Ok (with_lane [])) ≡ true) × (is_done Run (Ok (with_lane [])) ≡ false)
+pub done : (is_done refusal ≡ false) × (is_done (Ok (about (turned ∷ []))) ≡ false) × (is_done (Ok (about (sum ∷ []))) ≡ true) × (is_done (Ok (with_lane [])) ≡ true)
 unfolding is_done takes is_switch_free
-done = (refl, refl, refl, refl, refl)
+done = (refl, refl, refl, refl)
 
 -- ---- a first part of a text, and not all of it
 
@@ -148,25 +147,24 @@ pub none_owed : (work : Work) → owed work (script []) ≡ end_line
 none_owed Run = ap (owed Run) spells_none ∙ owed_for_refused.0
 none_owed Check = ap (owed Check) spells_none ∙ owed_for_refused.1
 
-pub none_done : (work : Work) → is_done work (script []) ≡ false
+pub none_done : is_done (script []) ≡ false
 unfolding is_done
-none_done Run = ap (is_done Run) spells_none
-none_done Check = ap (is_done Check) spells_none
+none_done = ap is_done spells_none
 
 -- the line of the refusal was written
 pub serves_refused : (work : Work) → Serves work Script (Some []) (Some []) (Some (7 ∷ [])) (Some (7 ∷ end_line))
-serves_refused work = inr ((refl, omega arith), none_done work, ap (λ (xs : List ℕ). 7 ∷ xs) (sym (none_owed work)))
+serves_refused work = inr ((refl, omega arith), none_done, ap (λ (xs : List ℕ). 7 ∷ xs) (sym (none_owed work)))
 
 -- a source or a sink that doesn't tell its bytes
 pub serves_untold_source : Serves Run Done None None (Some (7 ∷ [])) (Some [])
 serves_untold_source = tt
 
 pub serves_untold_sink : Serves Run Script (Some []) (Some []) None None
-serves_untold_sink = inr ((refl, omega arith), none_done Run, tt)
+serves_untold_sink = inr ((refl, omega arith), none_done, tt)
 
 -- it isn't done
 pub serves_as_done : Serves Run Done (Some []) (Some []) (Some (7 ∷ [])) (Some (7 ∷ end_line)) → ⊥
-serves_as_done s = true≢false (sym s.1 ∙ none_done Run)
+serves_as_done s = true≢false (sym s.1 ∙ none_done)
 
 -- another text was written; nothing was read
 no_longer : TakesMoreThan [] (Some []) most_bytes → ⊥
@@ -194,7 +192,7 @@ serves_long all count = inl (omega (arith, count), refl)
 -- done: the bytes spell a script, here the sum, and its text was written
 pub serves_done : (bytes : List ℕ) → script bytes ≡ Ok (about (sum ∷ [])) → length bytes ≤ 1048576
     → Serves Check Done (Some bytes) (Some []) (Some []) (Some (codes "limit 985162418487295\ncircuit c\nnode 0 41\nnode 1 41\nnode 2 83\noutput 85\nplain 8 0 1\n"))
-serves_done bytes spells few = ((refl, few), ap (is_done Check) spells ∙ sum_is_done, sym (ap (owed Check) spells ∙ owed_for_check))
+serves_done bytes spells few = ((refl, few), ap is_done spells ∙ sum_is_done, sym (ap (owed Check) spells ∙ owed_for_check))
 
 pub serves_done_unwritten : (bytes : List ℕ) → script bytes ≡ Ok (about (sum ∷ [])) → Serves Check Done (Some bytes) (Some []) (Some []) (Some []) → ⊥
 serves_done_unwritten bytes spells s =
@@ -203,10 +201,10 @@ serves_done_unwritten bytes spells s =
 
 -- they spell one with a rotation, which isn't taken
 pub serves_another_form : (bytes : List ℕ) → script bytes ≡ Ok (about (turned ∷ [])) → length bytes ≤ 1048576 → Serves Check Script (Some bytes) (Some []) (Some []) (Some (codes "refused form\n"))
-serves_another_form bytes spells few = inr ((refl, few), ap (is_done Check) spells ∙ turned_is_not_done, sym (ap (owed Check) spells ∙ owed_for_others.2))
+serves_another_form bytes spells few = inr ((refl, few), ap is_done spells ∙ turned_is_not_done, sym (ap (owed Check) spells ∙ owed_for_others.1))
 
 pub serves_another_form_as_done : (bytes : List ℕ) → script bytes ≡ Ok (about (turned ∷ [])) → Serves Check Done (Some bytes) (Some []) (Some []) (Some []) → ⊥
-serves_another_form_as_done bytes spells s = true≢false (sym s.1 ∙ ap (is_done Check) spells ∙ turned_is_not_done)
+serves_another_form_as_done bytes spells s = true≢false (sym s.1 ∙ ap is_done spells ∙ turned_is_not_done)
 
 -- a first part of the line was written, and not all of it
 part_of : (text : List ℕ) → text ≡ end_line → WritesPart (Some (7 ∷ [])) (Some (7 ∷ codes "refused")) text
@@ -306,13 +304,13 @@ one_if_ok (Err r) = 0
 pub headline_of_nothing : HasHeadline (Some []) (Some []) (Some []) (Some []) → ⊥
 headline_of_nothing h = let there : 0 ≡ 1 = ap one_if_ok (sym spells_none ∙ h.spelled) in absurd (omega (arith, there))
 
-pub holds_script : (bytes : List ℕ) → script bytes ≡ Ok (about (sum ∷ [])) → length bytes ≤ 1048576 → HoldsScript Check (Some bytes)
-holds_script bytes spells few = (few, ap (is_done Check) spells ∙ sum_is_done)
+pub holds_script : (bytes : List ℕ) → script bytes ≡ Ok (about (sum ∷ [])) → length bytes ≤ 1048576 → HoldsScript (Some bytes)
+holds_script bytes spells few = (few, ap is_done spells ∙ sum_is_done)
 
-pub holds_nothing : HoldsScript Run (Some []) → ⊥
-holds_nothing h = true≢false (sym h.1 ∙ none_done Run)
+pub holds_nothing : HoldsScript (Some []) → ⊥
+holds_nothing h = true≢false (sym h.1 ∙ none_done)
 
-pub holds_untold : HoldsScript Run None → ⊥
+pub holds_untold : HoldsScript None → ⊥
 holds_untold h = h
 
 pub done_or_not : IsDoneOr Done × IsDoneOr Memory
