@@ -8,6 +8,7 @@ use Rattle.proto_names.specs.declared.instance.Instance.{Instance}
 use Rattle.proto_names.specs.declared.instance.Stage.{Stage}
 use Rattle.proto_names.specs.declared.instance.Stage.TheVariants.{Opened, Complete, Void}
 use Rattle.participants.specs.Loads.{load, loads_of, one_more, raised, earlier, first_from, chosen_from, chosen}
+use Rattle.participants.specs.Live.{live_ones}
 
 -- without any load the two least of the parties 1 to 4 take part
 idle : chosen 2 [] 15 ≡ 3
@@ -82,6 +83,11 @@ is_complete = refl
 is_void : take 4 (loads_of (one_sent (Void 3) ∷ [])) ≡ 0 ∷ 0 ∷ 0 ∷ 0 ∷ []
 unfolding loads_of load lacks has
 is_void = refl
+
+-- all but void ones are live
+alive : live_ones (one_sent (Void 3) ∷ one_sent Opened ∷ one_sent Complete ∷ []) ≡ one_sent Opened ∷ one_sent Complete ∷ []
+unfolding live_ones
+alive = refl
 
 -- a new one raises the loads of its parties
 issued : take 4 (loads_of (with_fresh (one_sent Opened ∷ []) Pk (record { bits = 3 }) 0 0)) ≡ 2 ∷ 1 ∷ 1 ∷ 0 ∷ []

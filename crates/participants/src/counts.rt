@@ -1,5 +1,5 @@
 //! How many instances wait for each party.
-ghost use Rattle.std.specs.Prelude.{◌≡◌, ℕ, ◌≤◌, ◌<◌, ◌^◌, [], All, length, IfSome};
+ghost use Rattle.std.specs.Prelude.{◌≡◌, ℕ, ◌≤◌, ◌^◌, [], All, length, IfSome};
 ghost use Rattle.share_spec.specs.Sets.{has as is_member, members};
 ghost use Rattle.proto_names.specs.Instances.{lacks};
 ghost use Rattle.participants.specs.Loads.{load_in, loads_of, raised, earlier, first_of};
@@ -34,7 +34,7 @@ impl Loads {
 
     /// Those of some instances.
     pub fn of(instances: &[Instance]) -> Loads
-        requires { length instances.now < 2 ^ 30 }
+        requires { length instances.now ≤ 2 ^ 30 }
         ensures { result ≡ loads_of instances.now }
     {
         let mut loads = Loads::new();

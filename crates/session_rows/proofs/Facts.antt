@@ -111,7 +111,19 @@ pub decrypts : Decrypts (Idle ∷ Evaluated ∷ []) (issued 1 (Dec 1) one_two 1 
 decrypts = record {
   opened = λ c e h. let same : 1 ≡ c = ap subject e in subst (λ (k : ℕ). slice_index_or (Idle ∷ Evaluated ∷ []) k Answered ≡ Evaluated) same refl;
   complete = λ c e h. cc;
+  settled = λ c e. let same : 1 ≡ c = ap subject e in subst (λ (k : ℕ). is_settled (slice_index_or (Idle ∷ Evaluated ∷ []) k Answered) ≡ true) same refl;
 }
+
+-- the circuit of a void one is evaluated, or answered by a later attempt
+pub decrypted_again : Decrypts (Answered ∷ []) (issued 1 (Dec 0) one_two 1 one (Void 2) 0)
+decrypted_again = record {
+  opened = λ c e h. cc;
+  complete = λ c e h. cc;
+  settled = λ c e. let same : 0 ≡ c = ap subject e in subst (λ (k : ℕ). is_settled (slice_index_or (Answered ∷ []) k Answered) ≡ true) same refl;
+}
+
+pub given_back : Decrypts (Idle ∷ []) (issued 1 (Dec 0) one_two 1 one (Void 2) 0) → ⊥
+given_back d = true≢false (sym (d.settled 0 refl))
 
 pub decrypts_nothing : Decrypts (Idle ∷ Evaluated ∷ []) (issued 1 (Dec 0) one_two 1 one Opened 0) → ⊥
 decrypts_nothing d = let same : Idle ≡ Evaluated = d.opened 0 refl refl in cc

@@ -131,10 +131,14 @@ turn_other circuits c d now then_ free closed e = elim (cases_eq d c) [
   | inr off ↦ get_or-set_other circuits c d now Answered off ∙ e
 ]
 
+turn_settled : (circuits : List CircuitState) (c d : ℕ) (now : CircuitState) → is_settled (circuit circuits c) ≡ false → is_settled (circuit circuits d) ≡ true → is_settled (circuit (set circuits c now) d) ≡ true
+turn_settled circuits c d now free closed = rw (turn_other circuits c d now (circuit circuits d) free closed refl) closed
+
 turn_decrypts : (circuits : List CircuitState) (c : ℕ) (now : CircuitState) (i : Instance) → is_settled (circuit circuits c) ≡ false → Decrypts circuits i → Decrypts (set circuits c now) i
 turn_decrypts circuits c now i free d = record {
   opened = λ e its waits. turn_other circuits c e now Evaluated free refl (d.opened e its waits);
   complete = λ e its done. turn_other circuits c e now Answered free refl (d.complete e its done);
+  settled = λ e its. turn_settled circuits c e now free (d.settled e its);
 }
 
 pub turn_next : (f : Fixed) (s : State) (c : ℕ) (now : CircuitState) → IsTurned (circuit s.circuits c) now → Kept f s → Next f s (changed (Turns c now) s)

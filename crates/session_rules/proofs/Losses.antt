@@ -34,8 +34,9 @@ void_sound f before now a by s = record {
   awaited = λ e p h n. cc;
 }
 
-void_decrypts : (circuits : List CircuitState) (a : Instance) (by : ℕ) → Decrypts circuits (record a { stage = Void by })
-void_decrypts circuits a by = record { opened = λ c e o. cc; complete = λ c e o. cc }
+-- its circuit is as far as before
+void_decrypts : (circuits : List CircuitState) (a : Instance) (by : ℕ) → Decrypts circuits a → Decrypts circuits (record a { stage = Void by })
+void_decrypts circuits a by d = record { opened = λ c e o. cc; complete = λ c e o. cc; settled = d.settled }
 
 -- a fact of a changed one, by the test
 either_one : (P : Instance → Type 0) (b : Bool) (now a : Instance) → (b ≡ true → P now) → (b ≡ false → P a) → P (if b then now else a)
@@ -63,7 +64,7 @@ give_up_kept f s i by k within done none =
       sound = each_map g is (λ a. IsSound f s.present a) (λ a. IsSound f s.present a)
           (λ a m s_. either_one (λ b. IsSound f s.present b) (nat_eq a.id i.id) (record a { stage = Void by }) a (λ e. void_sound f s.present s.present a by s_) (λ e. s_)) k.sound;
       decrypts = each_map g is (λ a. Decrypts s.circuits a) (λ a. Decrypts s.circuits a)
-          (λ a m s_. either_one (λ b. Decrypts s.circuits b) (nat_eq a.id i.id) (record a { stage = Void by }) a (λ e. void_decrypts s.circuits a by) (λ e. s_)) k.decrypts;
+          (λ a m s_. either_one (λ b. Decrypts s.circuits b) (nat_eq a.id i.id) (record a { stage = Void by }) a (λ e. void_decrypts s.circuits a by s_) (λ e. s_)) k.decrypts;
       rounds = rounds_map g is later
           (λ a first m second alive n d e. absurd (none_lives Rlk2 is a none m second (later_lives a (g a) (later a m) alive))) k.rounds;
     }
@@ -152,7 +153,7 @@ module _ (f : Fixed) (s : State) (k : Kept f s) (p : ℕ) where
       })
 
   loss_decrypts : (a : Instance) → Decrypts s.circuits a → Decrypts s.circuits (fallen p is a)
-  loss_decrypts a x = either_one (λ b. Decrypts s.circuits b) (falls p is a) (record a { stage = Void p }) a (λ e. void_decrypts s.circuits a p) (λ e. x)
+  loss_decrypts a x = either_one (λ b. Decrypts s.circuits b) (falls p is a) (record a { stage = Void p }) a (λ e. void_decrypts s.circuits a p x) (λ e. x)
 
   pub loss_kept : 1 ≤ p → p ≤ 32 → Kept f (record s { present = without_party s.present p; instances = after_loss p s.instances })
   unfolding after_loss

@@ -129,7 +129,7 @@ fresh_sound f present is σ parties round1 group small many there = record {
 
 pub fresh_decrypts : (circuits : List CircuitState) (is : List Instance) (σ : Signature) (parties : PartySet) (round1 group : ℕ) → ((c : ℕ) → σ ≡ Dec c → circuit circuits c ≡ Evaluated) → Decrypts circuits (fresh is σ parties round1 group)
 unfolding fresh
-fresh_decrypts circuits is σ parties round1 group h = record { opened = λ c e o. h c e; complete = λ c e o. cc }
+fresh_decrypts circuits is σ parties round1 group h = record { opened = λ c e o. h c e; complete = λ c e o. cc; settled = λ c e. rw (h c e) refl }
 
 -- the state with a new one
 pub issue_kept : (f : Fixed) (s : State) (σ : Signature) (parties : PartySet) (round1 group : ℕ) → Kept f s

@@ -3,13 +3,10 @@ use Rattle.std.proofs.Common.{◌≡◌, All, slice_index_or, ℕ, zero, suc, �
 use Rattle.std.specs.Prelude.{Option, Some, None}
 use Rattle.std.proofs.lemmas.List.{append-nil, append_assoc}
 use Rattle.std.proofs.lemmas.List.Elements.{All-get_or}
-use Rattle.proto_names.specs.Instances.{fresh}
-use Rattle.proto_names.specs.declared.signature.Signature.{Signature}
-use Rattle.proto_names.specs.declared.sets.PartySet.{PartySet}
 use Rattle.proto_names.specs.declared.instance.Instance.{Instance}
-use Rattle.participants.specs.Loads.{loads_of, raised}
+use Rattle.participants.specs.Loads.{loads_of}
 use Rattle.participants.specs.Laws.{IsAtMost}
-use Rattle.participants.proofs.Raising.{loads_rise, loads_are_few}
+use Rattle.participants.proofs.Raising.{loads_are_few}
 use Rattle.session_rules.specs.declared.fixed.Fixed.{Fixed}
 use Rattle.session_rules.specs.declared.state.CircuitState.{CircuitState}
 use Rattle.session_rules.specs.declared.moves.Move.{Move}
@@ -104,8 +101,3 @@ pub loads_at_most : (is : List Instance) (loads : List ℕ) (most : ℕ) → len
 loads_at_most is loads most l same k d m =
     let all : All (IsAtMost most) loads = rw same (loads_are_few is most l) in
     All-get_or (IsAtMost most) loads k d m all
-
--- with an instance more they are those that were raised
-pub loads_made : (is : List Instance) (loads : List ℕ) (σ : Signature) (set : PartySet) (round1 : ℕ) → loads ≡ loads_of is
-    → raised set.bits loads ≡ loads_of (is ++ fresh is σ set round1 0 ∷ [])
-loads_made is loads σ set round1 same = ap (raised set.bits) same ∙ sym (loads_rise is σ set round1 0)

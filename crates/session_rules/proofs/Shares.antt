@@ -139,12 +139,17 @@ module _ (f : Fixed) (s : State) (k : Kept f s) (i : Instance) (p : ℕ)
   abbrev counted_circuits : List CircuitState
   counted_circuits = cond (is_last p i) (answered_by i.signature circuits) circuits
 
+  -- the circuit of its decryption isn't refused
+  its_admitted : (c : ℕ) → i.signature ≡ Dec c → is_refused (circuit circuits c) ≡ false
+  its_admitted c e = rw ((k.decrypts i within).opened c e opened) refl
+
   last_decrypts : nat_eq (missing p i) 0 ≡ true → (a : Instance) → Contains is a → Decrypts circuits a → Decrypts (answered_by i.signature circuits) (counted_at i.id p a)
   unfolding with_share
   last_decrypts last a m d = by_test (λ z. Decrypts (answered_by i.signature circuits) z) a m
       (record {
         opened = λ c e (open_still : (if nat_eq (missing p i) 0 then Complete else Opened) ≡ Opened). let closed : (if nat_eq (missing p i) 0 then Complete else Opened) ≡ Complete = rw last refl in cc;
         complete = λ c e done. answered_its i.signature circuits c e;
+        settled = λ c e. rw (answered_its i.signature circuits c e) refl;
       })
       (λ differs. record {
         opened = λ c e waits. elim (decides_dec i.signature c) [
@@ -154,6 +159,7 @@ module _ (f : Fixed) (s : State) (k : Kept f s) (i : Instance) (p : ℕ)
           | inr other ↦ answered_other i.signature circuits c other ∙ d.opened c e waits
         ];
         complete = λ c e done. answered_kept i.signature circuits c (d.complete c e done);
+        settled = λ c e. (answered_admitted i.signature circuits its_admitted).evaluated c (d.settled c e);
       })
 
   more_decrypts : nat_eq (missing p i) 0 ≡ false → (a : Instance) → Contains is a → Decrypts circuits a → Decrypts circuits (counted_at i.id p a)
@@ -162,6 +168,7 @@ module _ (f : Fixed) (s : State) (k : Kept f s) (i : Instance) (p : ℕ)
       (record {
         opened = λ c e waits. (k.decrypts i within).opened c e opened;
         complete = λ c e (closed : (if nat_eq (missing p i) 0 then Complete else Opened) ≡ Complete). let open_still : (if nat_eq (missing p i) 0 then Complete else Opened) ≡ Opened = rw more refl in cc;
+        settled = (k.decrypts i within).settled;
       })
       (λ differs. d)
 
@@ -180,7 +187,7 @@ module _ (f : Fixed) (s : State) (k : Kept f s) (i : Instance) (p : ℕ)
 
   pub share_admitted : StayAdmitted circuits counted_circuits
   share_admitted = elim (cases_Bool (nat_eq (missing p i) 0)) [
-    | inl last ↦ rw last (answered_admitted i.signature circuits (λ c e. rw ((k.decrypts i within).opened c e opened) refl))
+    | inl last ↦ rw last (answered_admitted i.signature circuits its_admitted)
     | inr more ↦ rw more (circuits_reflexive circuits)
   ]
 

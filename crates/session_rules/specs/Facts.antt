@@ -68,10 +68,16 @@ pub record IsSound (f : Fixed) (present : ℕ) (i : Instance) : Type 0 where
   pub opened : 1 ≤ threshold_at f i.group → i.stage ≡ Opened → 1 ≤ number_outside i.set.bits i.sent.bits
   pub awaited : i.stage ≡ Opened → (p : ℕ) → has i.set.bits p ≡ true → has i.sent.bits p ≡ false → has present p ≡ true
 
--- the circuit of a decryption is evaluated, and answered once the decryption is complete
+-- a circuit that is evaluated, whether or not it is answered
+abbrev pub is_settled : CircuitState → Bool
+is_settled now = is_evaluated now || is_answered now
+
+-- the circuit of a decryption is evaluated, and answered once the decryption is complete; where the decryption is void
+-- it is one of both
 pub record Decrypts (circuits : List CircuitState) (i : Instance) : Type 0 where
   pub opened : (c : ℕ) → i.signature ≡ Dec c → i.stage ≡ Opened → circuit circuits c ≡ Evaluated
   pub complete : (c : ℕ) → i.signature ≡ Dec c → i.stage ≡ Complete → circuit circuits c ≡ Answered
+  pub settled : (c : ℕ) → i.signature ≡ Dec c → is_settled (circuit circuits c) ≡ true
 
 -- the first round of a second round is complete, and of the same parties
 pub record HasFirst (is : List Instance) (second : Instance) : Type 0 where
@@ -114,10 +120,6 @@ pub record IsSameLater (before now : Instance) : Type 0 where
   pub opened : now.stage ≡ Opened → before.stage ≡ Opened
   pub void : (by : ℕ) → before.stage ≡ Void by → now.stage ≡ Void by
   pub complete : before.signature ≢ Rlk1 → before.stage ≡ Complete → now.stage ≡ Complete
-
--- a circuit that is evaluated, whether or not it is answered
-abbrev pub is_settled : CircuitState → Bool
-is_settled now = is_evaluated now || is_answered now
 
 -- a circuit that is taken, evaluated or answered
 abbrev pub is_begun : CircuitState → Bool

@@ -1,5 +1,6 @@
 pub mod States
 pub mod Issues
+pub mod StandIns
 pub mod Deeds
 pub mod Steps
 pub mod Histories

@@ -1,10 +1,12 @@
 -- A move that gives an instance up leaves as many as there were, and one that issues an instance raises loads.
 use Rattle.std.proofs.Common.{◌≡◌, ◌∙◌, sym, ap, ◌^◌, ◌∷◌, [], ◌++◌, length, arith}
 use Rattle.std.proofs.lemmas.Grind.{common_steps}
-use Rattle.proto_names.specs.Instances.{fresh, after_void}
+use Rattle.proto_names.specs.Instances.{after_void}
 use Rattle.participants.specs.Loads.{loads_of}
+use Rattle.session_rules.specs.StandIns.{behind}
 use Rattle.session_rules.proofs.Stepwise.{void_length}
-use Rattle.session_rules.proofs.Planned.{loads_at_most, loads_made}
+use Rattle.session_rules.proofs.Planned.{loads_at_most}
+use Rattle.session_rules.proofs.StandIns.{loads_stand}
 use Rattle.session_rules.proofs.planning.make.Goals as goal
 
 pub of-requires : goal.of-requires
@@ -18,6 +20,6 @@ raise-requires c = loads_at_most c.args.instances.now.items c.args.loads.now (2 
 
 pub returns-in_ok-push-in-Issue-clause-loads : goal.returns-in_ok-push-in-Issue-clause-loads
 returns-in_ok-push-in-Issue-clause-loads c =
-    let is = c.args.instances.now.items in let i = c.in-Issue in
-    let now : c.push.new.self.items ≡ is ++ fresh is i.signature i.set i.round1 0 ∷ [] = grind (arith, common_steps) in
-    c.raise.ensures ∙ loads_made is c.args.loads.now i.signature i.set i.round1 c.requires.loads ∙ ap loads_of (sym now)
+    let is = c.args.instances.now.items in let n = c.args.issued.now in let i = c.in-Issue in
+    let now : c.push.new.self.items ≡ is ++ behind n i.signature i.set i.round1 ∷ [] = grind (arith, common_steps) in
+    c.raise.ensures ∙ loads_stand n is c.args.loads.now i.signature i.set i.round1 c.requires.loads ∙ ap loads_of (sym now)
