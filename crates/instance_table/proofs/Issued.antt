@@ -1,7 +1,8 @@
 -- What a table's facts rest on once an instance stands behind the others.
-use Rattle.std.proofs.Common.{◌≡◌, ℕ, zero, suc, ◌+◌, ◌<◌, List, [], ◌∷◌, ◌++◌, map, length, length-append, ap, sym, ◌∙◌, arith}
-use Rattle.std.specs.Prelude.{All, replicate}
-use Rattle.std.specs.List.{range_with_len}
+use Rattle.std.proofs.Common.{◌≡◌, ℕ, zero, suc, ◌+◌, ◌<◌, List, [], ◌∷◌, ◌++◌, map, length, length-append, ap, sym, ◌∙◌, refl, arith}
+use Rattle.std.specs.Prelude.{All, replicate, true, cond}
+use Rattle.std.specs.List.{range_with_len, count_by}
+use Rattle.std.proofs.lemmas.Grind.{common_steps}
 use Rattle.std.specs.declared.alloc.Global.{Global}
 use Rattle.std.specs.declared.sync.Arc.{Arc}
 use Rattle.std.proofs.lemmas.List.{map_push, length-replicate}
@@ -9,12 +10,16 @@ use Rattle.std.proofs.lemmas.List.Elements.{All-replicate}
 use Rattle.ring_spec.specs.Ring.{IsPoly}
 use Rattle.param_set.specs.Moduli.{digit_rows}
 use Rattle.param_set.specs.declared.params.Params.{Params}
-use Rattle.proto_names.specs.Names.{rows_of}
-use Rattle.proto_names.specs.Instances.{id_of, fresh}
+use Rattle.proto_names.specs.Names.{same, rows_of}
+use Rattle.proto_names.specs.Instances.{id_of, is_of, fresh}
+use Rattle.proto_names.specs.declared.sets.PartySet.{PartySet}
 use Rattle.proto_names.specs.declared.signature.Signature.{Signature}
 use Rattle.proto_names.specs.declared.instance.Instance.{Instance}
 use Rattle.proto_names.specs.Roles.{role_of, last_place}
+use Rattle.participants.specs.Live.{is_live}
+use Rattle.instance_table.specs.Attempts.{attempts_in}
 use Rattle.instance_table.specs.Tables.{role_told, no_sums}
+use Rattle.instance_table.specs.declared.attempts.Attempt.{Attempt}
 use Rattle.instance_table.specs.declared.brief.Brief.{Brief}
 
 pub length_push : {X : Type 0} (xs : List X) (x : X) → length (xs ++ x ∷ []) ≡ length xs + 1
@@ -53,3 +58,15 @@ pub no_sums-fits : (p : Params) (σ : Signature) → 0 < p.q → All (IsPoly p.q
 unfolding no_sums
 no_sums-fits p σ h =
     All-replicate (IsPoly p.q p.n) _ (replicate p.n 0) (record { entries = length-replicate p.n 0; below = All-replicate (λ x. x < p.q) p.n 0 h })
+
+-- a new instance isn't void, and is one more of its signature
+pub fresh_lives : (is : List Instance) (σ : Signature) (set : PartySet) (round1 group : ℕ) → is_live (fresh is σ set round1 group) ≡ true
+unfolding fresh
+fresh_lives is σ set round1 group = refl
+
+pub attempts_push : (σ τ : Signature) (is : List Instance) (i : Instance) (entries new : List Attempt) → i.signature ≡ σ →
+    attempts_in entries τ ≡ count_by (is_of τ) is → attempts_in new τ ≡ attempts_in entries τ + cond (same σ τ) 1 0 →
+    attempts_in new τ ≡ count_by (is_of τ) (is ++ i ∷ [])
+attempts_push σ τ is i entries new of was more =
+    let here : same i.signature τ ≡ same σ τ = ap (λ (ρ : Signature). same ρ τ) of in
+    grind (arith, common_steps, was, more, here)

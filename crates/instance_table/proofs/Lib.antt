@@ -3,3 +3,5 @@ pub mod Issued
 pub mod Places
 pub mod Roles
 pub mod Orders
+pub mod Lives
+pub mod Attempted

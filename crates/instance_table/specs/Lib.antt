@@ -1,3 +1,5 @@
 pub mod Tables
 pub mod Spare
 pub mod Totals
+pub mod Attempts
+pub mod Lists

@@ -1,16 +1,16 @@
-ghost use Rattle.std.specs.Prelude.{◌≡◌, ◌≤◌, ◌<◌, ◌+◌, ◌-◌, ◌^◌, ℕ, [], ◌∷◌, ◌++◌, length, All, Some, IsTrue, OnOk, slice_index_or, slice_set};
+ghost use Rattle.std.specs.Prelude.{◌≡◌, ◌≤◌, ◌<◌, ◌+◌, ◌-◌, ◌^◌, ℕ, [], ◌∷◌, ◌++◌, length, All, Some, IsTrue, OnOk, slice_index_or};
 ghost use Rattle.mod_ring.specs.Fits.{Fits};
 ghost use Rattle.proto_names.specs.Instances.{with_fresh, after_share, after_void, after_lost};
-ghost use Rattle.proto_names.specs.Roles.{role_of, last_place};
-ghost use Rattle.instance_table.specs.Tables.{no_sums, rows_sum, after_rows, awaits, stands, count_of};
+ghost use Rattle.proto_names.specs.Roles.{last_place};
+ghost use Rattle.instance_table.specs.Tables.{no_sums, after_rows, awaits, stands, count_of};
 ghost use Rattle.instance_table.specs.Spare.{spare};
 
+use crate::attempts::count_attempt;
 use crate::readers::place_of;
 use crate::rows::add_rows;
-use crate::share::outcome;
-use crate::{Brief, Count, Share, Table};
+use crate::{Brief, Count, Share, Table, living, numbered};
 use mod_ring::{Polys, Ring};
-use proto_names::{Instance, Signature, after_loss, fresh, given_up, missing, with_share};
+use proto_names::Signature;
 use std::alloc::AllocError;
 use std::sync::Arc;
 
@@ -28,26 +28,17 @@ impl Table {
         let more = instances as usize;
         self.instances.reserve(more)?;
         self.briefs.reserve(more)?;
-        self.sums.reserve(more)
-    }
-
-    /// Puts an instance into the place of another, which has the same number, signature and parties.
-    #[tactic(auto, unfolding(crate::specs::Spare::spare))]
-    fn replace(&mut self, place: usize, instance: Instance)
-        requires place { place < length self.old.instances.items }
-        requires role { role_of instance
-            ≡ role_of (slice_index_or self.old.instances.items place instance) }
-        ensures instances { self.new.instances.items ≡ slice_set self.old.instances.items place instance }
-        ensures briefs { self.new.briefs.items ≡ self.old.briefs.items }
-        ensures sums { self.new.sums.items ≡ self.old.sums.items }
-        ensures ring { self.new.params ≡ self.old.params }
-        ensures spare { spare self.new ≡ spare self.old }
-    {
-        self.instances[place] = instance;
+        self.sums.reserve(more)?;
+        self.live.reserve(more)?;
+        self.attempts.reserve(more)?;
+        if self.places < instances {
+            self.places = instances;
+        }
+        Ok(())
     }
 
     /// Gives an instance up, because party `by` was lost.
-    #[tactic(auto, unfolding(crate::specs::Tables::stands, proto_names::specs::Instances::instance))]
+    #[tactic(auto, unfolding(crate::specs::Spare::spare))]
     pub fn void(&mut self, id: u32, by: u32)
         requires stands { IsTrue (stands self.old.instances.items id) }
         ensures instances { self.new.instances.items ≡ after_void id by self.old.instances.items }
@@ -56,13 +47,12 @@ impl Table {
         ensures ring { self.new.params ≡ self.old.params }
         ensures spare { spare self.new ≡ spare self.old }
     {
-        let place = place_of(id);
-        let instance = given_up(by, &self.instances[place]);
-        self.replace(place, instance);
+        numbered::void(&mut self.instances, id, by);
+        living::leave_out(&mut self.live, id);
     }
 
     /// Gives up each instance that lacks the share of party p.
-    #[tactic(auto, unfolding(proto_names::specs::Instances::after_lost))]
+    #[tactic(auto, unfolding(crate::specs::Spare::spare))]
     pub fn lose(&mut self, p: u32)
         ensures instances { self.new.instances.items ≡ after_lost p self.old.instances.items }
         ensures briefs { self.new.briefs.items ≡ self.old.briefs.items }
@@ -70,10 +60,8 @@ impl Table {
         ensures ring { self.new.params ≡ self.old.params }
         ensures spare { spare self.new ≡ spare self.old }
     {
-        for place in 0..self.instances.len() {
-            let instance = after_loss(p, &self.instances[place]);
-            self.replace(place, instance);
-        }
+        numbered::lose(&mut self.instances, p);
+        living::leave_out_lost(&mut self.live, p);
     }
 
     /// Adds the rows of a share to the sums of an instance.
@@ -94,7 +82,7 @@ impl Table {
     }
 
     /// Marks the share of party p for an instance as counted.
-    #[tactic(auto, using(crate::proofs::Places::awaits_issued, crate::proofs::Places::awaits_party))]
+    #[tactic(auto, unfolding(crate::specs::Spare::spare), using(crate::proofs::Places::awaits_party))]
     fn mark(&mut self, id: u32, p: u32) -> Count
         requires { IsTrue (awaits self.old.instances.items id p) }
         ensures count { Some result ≡ count_of self.old.instances.items id p }
@@ -104,11 +92,8 @@ impl Table {
         ensures ring { self.new.params ≡ self.old.params }
         ensures spare { spare self.new ≡ spare self.old }
     {
-        let place = place_of(id);
-        let missing = missing(p, &self.instances[place]);
-        let instance = with_share(p, &self.instances[place]);
-        self.replace(place, instance);
-        outcome(missing)
+        living::count_share(&mut self.live, id, p);
+        numbered::mark(&mut self.instances, id, p)
     }
 
     /// Counts the share of a party: its rows are added to the sums of that one instance.
@@ -149,16 +134,14 @@ impl Table {
         ensures ring { self.new.params ≡ self.old.params }
         ensures spare { spare self.new + 1 ≡ spare self.old }
     {
-        let instance = fresh(
-            self.instances.as_slice(),
-            signature,
-            brief.set,
-            brief.round1,
-            brief.groups.last_place(),
-        );
+        let attempt = count_attempt(&mut self.attempts, signature);
+        let id = self.instances.len() as u32 + 1;
+        let instance = numbered::opened(id, attempt, signature, &brief);
         self.instances.push_reserved(instance);
+        self.live.push_reserved(instance);
         self.briefs.push_reserved(brief);
         self.sums.push_reserved(sums);
-        instance.id
+        self.places -= 1;
+        id
     }
 }

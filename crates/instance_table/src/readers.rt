@@ -1,14 +1,18 @@
 ghost use Rattle.std.specs.Prelude.{◌≡◌, ◌≤◌, ◌-◌, ◌↔◌, ℕ, length, All, Some, IfOk, IfSome, IsSome, IsTrue, option_copied, option_map};
 ghost use Rattle.ring_spec.specs.Ring.{IsPoly};
 ghost use Rattle.proto_names.specs.Names.{is_void};
-ghost use Rattle.proto_names.specs.Instances.{instance, owed_shares, after_share, after_lost};
+ghost use Rattle.proto_names.specs.Instances.{instance, owed_shares, after_share};
 ghost use Rattle.proto_names.specs.Roles.{role_of};
-ghost use Rattle.instance_table.specs.Tables.{role_told, row_count, row_counts, stands, told};
+ghost use Rattle.share_spec.specs.Sets.{count as number_of};
+ghost use Rattle.participants.specs.Live.{live_ones};
+ghost use Rattle.participants.specs.Loads.{load_in, loads_of, chosen};
+ghost use Rattle.instance_table.specs.Tables.{role_told, row_count, row_counts, awaits, stands, told};
 
-use crate::{Brief, Table};
+use crate::{Brief, Table, living};
 use mod_ring::Polys;
 use param_set::Ids;
-use proto_names::{Instance, Stage, after_loss, counted_at, lacks};
+use participants::Loads;
+use proto_names::{Instance, PartySet, Stage, lacks};
 use std::alloc::{AllocError, Global};
 use std::sync::Arc;
 
@@ -55,40 +59,55 @@ impl Table {
         self.instances.as_slice()
     }
 
-    /// A copy of all instances.
-    pub fn instances_copied(&self, alloc: Global) -> Result<Vec<Instance>, AllocError>
-        ensures { IfOk result (λ copies. copies.items ≡ self.now.instances.items) }
+    /// The instances that aren't void, in the order of their numbers.
+    pub fn live(&self) -> &[Instance]
+        ensures { result.now ≡ live_ones self.now.instances.items }
     {
-        Vec::from_slice(alloc, self.instances.as_slice())
+        self.live.as_slice()
     }
 
-    /// A copy of all instances, as they are once the share of party p for the one with a number is counted.
-    #[tactic(auto, unfolding(proto_names::specs::Instances::after_share))]
-    pub fn instances_with_share(
+    /// A copy of the instances that aren't void.
+    pub fn live_copied(&self, alloc: Global) -> Result<Vec<Instance>, AllocError>
+        ensures { IfOk result (λ copies. copies.items ≡ live_ones self.now.instances.items) }
+    {
+        Vec::from_slice(alloc, self.live.as_slice())
+    }
+
+    /// A copy of those that aren't void, as they are once the share of party p for one of them is
+    /// counted.
+    #[tactic(auto, using(crate::proofs::Places::awaits_party, crate::proofs::Lives::live_counted))]
+    pub fn live_with_share(
         &self,
         alloc: Global,
         id: u32,
         p: u32,
     ) -> Result<Vec<Instance>, AllocError>
-        requires first { 1 ≤ p }
-        requires last { p ≤ 32 }
-        ensures { IfOk result (λ copies. copies.items ≡ after_share id p self.now.instances.items) }
+        requires { IsTrue (awaits self.now.instances.items id p) }
+        ensures { IfOk result (λ copies. copies.items
+            ≡ live_ones (after_share id p self.now.instances.items)) }
     {
-        self.instances
-            .iter()
-            .map(|instance| counted_at(id, p, instance))
-            .collect(alloc)
+        living::with_share_of(alloc, self.live.as_slice(), id, p)
     }
 
-    /// A copy of all instances, as they are once party p is lost: those that lack its share are given up.
-    #[tactic(auto, unfolding(proto_names::specs::Instances::after_lost))]
-    pub fn instances_without(&self, alloc: Global, p: u32) -> Result<Vec<Instance>, AllocError>
-        ensures { IfOk result (λ copies. copies.items ≡ after_lost p self.now.instances.items) }
+    /// How many opened instances wait for the share of party p.
+    #[tactic(auto, using(crate::proofs::Lives::live_few))]
+    pub fn load(&self, p: u32) -> u32
+        requires first { 1 ≤ p }
+        requires last { p ≤ 32 }
+        ensures { result ≡ load_in (loads_of self.now.instances.items) p }
     {
-        self.instances
-            .iter()
-            .map(|instance| after_loss(p, instance))
-            .collect(alloc)
+        living::load(self.live.as_slice(), p)
+    }
+
+    /// Of a set the first k parties, by rising load and then by rising number, and None where it
+    /// has fewer.
+    #[tactic(auto, using(participants::proofs::Live::loads_live, crate::proofs::Lives::live_few))]
+    pub fn pick(&self, among: PartySet, k: u32) -> Option<PartySet>
+        ensures some { IfSome result (λ some. some.bits
+            ≡ chosen k (loads_of self.now.instances.items) among.bits) }
+        ensures enough { IsSome result ↔ (k ≤ number_of among.bits) }
+    {
+        participants::pick(&Loads::of(self.live.as_slice()), among, k)
     }
 
     /// The instance with a number, if that many were issued.
@@ -147,9 +166,10 @@ impl Table {
     }
 
     /// The numbers of the instances that lack the share of party p, rising.
+    #[tactic(auto, using(crate::proofs::Lives::owed_live))]
     pub fn pending(&self, alloc: Global, p: u32) -> Result<Ids, AllocError>
         ensures { IfOk result (λ ids. ids ≡ owed_shares p self.now.instances.items) }
     {
-        Ok(Ids::from_vec(owed(alloc, p, self.instances.as_slice())?))
+        Ok(Ids::from_vec(owed(alloc, p, self.live.as_slice())?))
     }
 }

@@ -187,6 +187,7 @@ fn adds_shares_row_by_row(rt: HostRuntime) -> Result<(), Fail> {
 /// Three instances, of which the first has the share of party 2.
 fn three(alloc: Global, ring: &Ring) -> Result<Table, AllocError>
     requires { ring.now.params.n ≡ 8 }
+    ensures { IfOk result (λ table. table.params ≡ ring.now.params) }
 {
     let mut table = Table::new(alloc, ring)?;
     issue(alloc, &mut table, ring, 0, 0b11)?;
@@ -235,17 +236,10 @@ fn gives_up_what_lacks_a_share(rt: HostRuntime) -> Result<(), Fail> {
     Ok(())
 }
 
-/// Whether the copies of the three instances are the same, and the third is the second of its signature.
-fn are_copied(alloc: Global, table: &Table) -> Result<bool, AllocError> {
-    let copies = table.instances_copied(alloc)?;
-    Ok(
-        copies.as_slice() == table.instances()
-            && copies.get(2).map(|instance| instance.attempt) == Some(2),
-    )
-}
-
 /// Gives the third instance up, where it stands.
-fn void_third(table: &mut Table) {
+fn void_third(table: &mut Table)
+    ensures { table.new.params ≡ table.old.params }
+{
     if table.brief(3).is_some() {
         table.void(3, 1);
     }
@@ -258,6 +252,112 @@ fn gives_one_up(rt: HostRuntime) -> Result<(), Fail> {
     let mut table = three(alloc, &ring)?;
     void_third(&mut table);
     assert_eq!(rt; stage(&table, 3), Some(Stage::Void { by: 1 }));
-    assert!(rt; are_copied(alloc, &table)?);
+    assert_eq!(rt; table.find(3).map(|instance| instance.attempt), Some(2));
+    Ok(())
+}
+
+/// The load of a party, if it is one of 1 to 32.
+fn load(table: &Table, party: u32) -> Option<u32> {
+    if 1 <= party && party <= 32 {
+        Some(table.load(party))
+    } else {
+        None
+    }
+}
+
+/// Tells of the loads of the three instances.
+fn loads_of_three<R: Abort>(rt: &R, table: &Table) {
+    for (party, want) in [
+        (0, None),
+        (1, Some(2)),
+        (2, Some(1)),
+        (3, Some(2)),
+        (4, Some(0)),
+        (33, None),
+    ] {
+        assert_eq!(rt; load(table, party), want, "party {party}");
+    }
+}
+
+/// Tells of who is picked by these loads.
+fn picks_of_three<R: Abort>(rt: &R, table: &Table) {
+    for (among, k, want) in [
+        (0b111, 1, Some(0b10)),
+        (0b111, 2, Some(0b11)),
+        (0b101, 1, Some(0b1)),
+        (0b1110, 2, Some(0b1010)),
+        (0b111, 3, Some(0b111)),
+        (0b111, 4, None),
+        (0, 0, Some(0)),
+    ] {
+        let picked = table.pick(PartySet { bits: among }, k);
+        assert_eq!(rt; picked.map(|set| set.bits), want, "{k} of {among}");
+    }
+}
+
+#[test]
+fn picks_by_load(rt: HostRuntime) -> Result<(), Fail> {
+    let alloc = rt.alloc();
+    let ring = Ring::new(alloc, &frame(3, 2)?)?;
+    let table = three(alloc, &ring)?;
+    loads_of_three(&rt, &table);
+    picks_of_three(&rt, &table);
+    Ok(())
+}
+
+/// Whether these are the instances that aren't void.
+fn stand(alloc: Global, table: &Table, want: &[u32]) -> Result<bool, AllocError> {
+    let copies = table.live_copied(alloc)?;
+    let ids: Vec<u32> = table
+        .live()
+        .iter()
+        .map(|instance| instance.id)
+        .collect(alloc)?;
+    Ok(ids.as_slice() == want && copies.as_slice() == table.live())
+}
+
+/// Counts the last share of the first instance, and tells whether a copy foretold those that stand.
+fn complete_first(alloc: Global, table: &mut Table, ring: &Ring) -> Result<bool, AllocError>
+    requires ring { ring.now.params ≡ table.old.params }
+    requires degree { ring.now.params.n ≡ 8 }
+    ensures { table.new.params ≡ table.old.params }
+{
+    if !awaits(table, 1, 1) {
+        return Ok(false);
+    }
+    let copies = table.live_with_share(alloc, 1, 1)?;
+    let last = give(alloc, table, ring, 1, 1, 5)?;
+    Ok(last == Some(Count::Completed) && copies.as_slice() == table.live())
+}
+
+/// Tells of one more instance of the second's signature, when it and the third are void.
+fn issues_a_third_attempt<R: Abort>(
+    rt: &R,
+    alloc: Global,
+    table: &mut Table,
+    ring: &Ring,
+) -> Result<(), AllocError>
+    requires { ring.now.params ≡ table.old.params }
+{
+    assert_eq!(rt; issue(alloc, table, ring, 1, 0b11)?, 4);
+    assert!(rt; stand(alloc, table, &[1, 4])?);
+    assert_eq!(rt; table.find(4).map(|instance| instance.attempt), Some(3));
+    assert_eq!(rt; load(table, 1), Some(1));
+    Ok(())
+}
+
+#[test]
+fn keeps_those_that_stand(rt: HostRuntime) -> Result<(), Fail> {
+    let alloc = rt.alloc();
+    let ring = Ring::new(alloc, &frame(3, 2)?)?;
+    let mut table = three(alloc, &ring)?;
+    assert!(rt; stand(alloc, &table, &[1, 2, 3])?);
+    void_third(&mut table);
+    assert!(rt; stand(alloc, &table, &[1, 2])?);
+    assert!(rt; complete_first(alloc, &mut table, &ring)?);
+    assert!(rt; stand(alloc, &table, &[1, 2])?);
+    table.lose(3);
+    assert!(rt; stand(alloc, &table, &[1])?);
+    issues_a_third_attempt(&rt, alloc, &mut table, &ring)?;
     Ok(())
 }

@@ -1,5 +1,5 @@
 //! The calls for a sum of inputs of the parties 1 and 2 among three, of whom any two act.
-ghost use Rattle.std.specs.Prelude.{◌≡◌, [], length, IfOk, IfSome};
+ghost use Rattle.std.specs.Prelude.{◌≡◌, ◌≤◌, [], length, IfOk, IfSome};
 
 use crate::common::frame;
 use circuit_form::{Circuit, Node};
@@ -91,32 +91,59 @@ fn fixed_for_sum(alloc: Global) -> Result<Option<Fixed>, Fail>
 /// The parties 2 and 3.
 const SET: PartySet = PartySet { bits: 6 };
 
-/// Whether this is the only move, with the set present and nothing issued.
-fn is_the_move(alloc: Global, fixed: &Fixed, wanted: Move) -> Result<bool, AllocError>
+/// The complete key.
+const KEY: Instance = Instance {
+    id: 1,
+    signature: Signature::Pk,
+    set: SET,
+    attempt: 1,
+    sent: SET,
+    stage: Stage::Complete,
+    round1: 0,
+    group: 0,
+};
+
+/// Whether these are all moves, with the set present and so many instances issued, of which these
+/// are the live ones.
+fn are_the_moves(
+    alloc: Global,
+    fixed: &Fixed,
+    live: Vec<Instance>,
+    issued: u32,
+    wanted: &[Move],
+) -> Result<bool, AllocError>
     requires plans { length fixed.now.plans ≡ 1 }
     requires turns { fixed.now.turns ≡ [] }
+    requires few { length live.items ≤ 1 }
+    requires issued { issued ≤ 1 }
 {
     let needed = fixed.keys(alloc)?;
     let idle = [CircuitState::Idle];
-    let issued = Vec::new(alloc);
-    let moves = planned_moves(alloc, fixed, needed.as_slice(), &SET, issued, &idle)?;
-    Ok(moves.as_slice() == [wanted].as_slice())
+    let moves = planned_moves(alloc, fixed, needed.as_slice(), &SET, live, issued, &idle)?;
+    Ok(moves.as_slice() == wanted)
+}
+
+/// Whether the key comes next, and nothing where it is complete.
+fn key_comes_once(alloc: Global, fixed: &Fixed) -> Result<bool, AllocError>
+    requires plans { length fixed.now.plans ≡ 1 }
+    requires turns { fixed.now.turns ≡ [] }
+{
+    let key = Move::Issue {
+        signature: Signature::Pk,
+        set: SET,
+        round1: 0,
+    };
+    let complete = vec![in alloc; KEY]?;
+    let before = are_the_moves(alloc, fixed, Vec::new(alloc), 0, &[key])?;
+    let after = are_the_moves(alloc, fixed, complete, 1, &[])?;
+    Ok(before && after)
 }
 
 /// The circuit that may be evaluated, with the key complete and so many inputs missing.
 fn ready(alloc: Global, fixed: &Fixed, missing: usize) -> Result<Option<u32>, AllocError>
     requires { length fixed.now.plans ≡ 1 }
 {
-    let complete = [Instance {
-        id: 1,
-        signature: Signature::Pk,
-        set: SET,
-        attempt: 1,
-        sent: SET,
-        stage: Stage::Complete,
-        round1: 0,
-        group: 0,
-    }];
+    let complete = [KEY];
     let given = vec![in alloc; Given::none(alloc, missing)?]?;
     let idle = [CircuitState::Idle];
     Ok(next_ready(fixed, &complete, given.as_slice(), &idle))
@@ -140,12 +167,7 @@ fn finds_out_what_comes_next(rt: HostRuntime) -> Result<(), Fail> {
     let Some(fixed) = fixed_for_sum(alloc)? else {
         panic!(rt; "no circuit")
     };
-    let key = Move::Issue {
-        signature: Signature::Pk,
-        set: SET,
-        round1: 0,
-    };
-    assert!(rt; is_the_move(alloc, &fixed, key)?);
+    assert!(rt; key_comes_once(alloc, &fixed)?);
     assert_eq!(rt; ready_before_and_after(alloc, &fixed)?, (None, Some(0)));
     Ok(())
 }

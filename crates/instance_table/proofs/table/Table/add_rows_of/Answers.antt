@@ -1,5 +1,5 @@
 -- The sums keep their number of rows, and fit.
-use Rattle.std.proofs.Common.{◌≡◌, [], get_or, ap, ◌∙◌, arith}
+use Rattle.std.proofs.Common.{◌≡◌, [], get_or, ap, ◌∙◌, arith, length-set}
 use Rattle.std.proofs.lemmas.List.{get_or_default}
 use Rattle.std.proofs.Math.Seq.{map-set_same}
 use Rattle.std.proofs.lemmas.List.Elements.{All-set}
@@ -19,4 +19,11 @@ invariant_of-self c =
       briefed = t.briefed;
       rows = map-set_same row_count t.sums.items k new [] (c.add_rows.ensures.number ∙ ap row_count was) ∙ t.rows;
       fits = All-set (All (IsPoly t.params.q t.params.n)) t.sums.items k new (rw (← c.requires.ring) c.add_rows.ensures.fits) t.fits;
+      alive = t.alive;
+      counted = t.counted;
+      room_for_instances = t.room_for_instances;
+      room_for_briefs = t.room_for_briefs;
+      room_for_sums = omega (arith, t.room_for_sums, length-set t.sums.items k new);
+      room_for_live = t.room_for_live;
+      room_for_attempts = t.room_for_attempts;
     }

@@ -1,20 +1,32 @@
--- One more instance is as it is after the loss.
-use Rattle.std.proofs.Common.{◌<◌, length, ◌∙◌, ap, set, arith}
-use Rattle.std.proofs.lemmas.List.Edits.{map_over_more}
-use Rattle.proto_names.specs.Instances.{lost_by}
+-- The instances keep their roles, and those that are given up are left out of those that aren't void.
+use Rattle.std.proofs.Common.{◌≡◌, map, ap, sym, ◌∙◌, arith}
+use Rattle.std.specs.Prelude.{filter}
+use Rattle.proto_names.specs.Instances.{after_lost}
+use Rattle.proto_names.specs.Roles.{role_of}
+use Rattle.participants.specs.Live.{live_ones}
+use Rattle.instance_table.specs.Lists.{keeps}
+use Rattle.instance_table.proofs.Roles.{lost_roles, ids_kept, row_counts_kept, number_kept, attempts_kept}
+use Rattle.instance_table.proofs.Lives.{live_lost}
 use Rattle.instance_table.proofs.table.Table.lose.Goals as goal
 
-pub loop-place-preserved : goal.loop-place-preserved
-loop-place-preserved c =
-    let is = c.args.self.now.instances.items in let now = c.loop-place.self.instances.items in
-    let k = c.loop-place.place in
-    let lt : k < length is = omega arith in
+pub invariant_of-self : goal.invariant_of-self
+invariant_of-self c =
+    let t = c.args.self.now in let is = t.instances.items in
+    let js = c.lose.new.instances.items in
+    let items : js ≡ after_lost c.args.p is = c.lose.ensures.items in
+    let roles : map role_of js ≡ map role_of is = ap (map role_of) items ∙ lost_roles c.args.p is in
+    let number = number_kept is js roles in
     record {
-      so_far =
-          c.replace.ensures.instances ∙ ap (set now k) c.after_loss-instance.ensures
-          ∙ map_over_more (lost_by c.args.p) is now k c.index.result.now lt c.loop-place.invariant.so_far c.index.ensures;
-      briefs = c.replace.ensures.briefs ∙ c.loop-place.invariant.briefs;
-      sums = c.replace.ensures.sums ∙ c.loop-place.invariant.sums;
-      ring = c.replace.ensures.ring ∙ c.loop-place.invariant.ring;
-      spare = c.replace.ensures.spare ∙ c.loop-place.invariant.spare;
+      few = rw number t.few;
+      numbered = ids_kept is js roles ∙ rw number t.numbered;
+      briefed = t.briefed ∙ sym roles;
+      rows = t.rows ∙ sym (row_counts_kept t.params is js roles);
+      fits = t.fits;
+      alive = c.leave_out_lost.ensures.items ∙ ap (filter (keeps c.args.p)) t.alive ∙ sym (live_lost c.args.p is) ∙ ap live_ones (sym items);
+      counted = λ σ. t.counted σ ∙ sym (attempts_kept σ is js roles);
+      room_for_instances = omega (arith, t.room_for_instances, c.lose.ensures.len, c.lose.ensures.capacity);
+      room_for_briefs = t.room_for_briefs;
+      room_for_sums = t.room_for_sums;
+      room_for_live = omega (arith, t.room_for_live, c.leave_out_lost.ensures.len, c.leave_out_lost.ensures.capacity);
+      room_for_attempts = t.room_for_attempts;
     }

@@ -1,32 +1,30 @@
--- The instance stands at the place before its number, and keeps its role.
-use Rattle.std.proofs.Common.{◌≡◌, ◌+◌, ◌∙◌, ap, set, arith}
-use Rattle.std.specs.Prelude.{Some}
-use Rattle.std.proofs.lemmas.List.{get_or_default}
+-- The instance keeps its role, and stands as before.
+use Rattle.std.proofs.Common.{◌≡◌, map, ap, sym, ◌∙◌, arith}
+use Rattle.proto_names.specs.Instances.{after_share, counted_at}
 use Rattle.proto_names.specs.Roles.{role_of}
-use Rattle.instance_table.specs.Tables.{outcome}
-use Rattle.instance_table.proofs.Places.{share_at, count_at, awaits_issued}
-use Rattle.instance_table.proofs.Roles.{share_role}
+use Rattle.participants.specs.Live.{live_ones}
+use Rattle.instance_table.proofs.Roles.{share_roles, ids_kept, row_counts_kept, number_kept, attempts_kept}
+use Rattle.instance_table.proofs.Lives.{live_counted}
 use Rattle.instance_table.proofs.table.Table.mark.Goals as goal
 
-pub returns-clause-instances : goal.returns-clause-instances
-returns-clause-instances c =
-    let t = c.args.self.now in let is = t.instances.items in let k = c.place_of-place.result in
-    let issued = awaits_issued is c.args.id c.args.p c.requires in
-    let at : k + 1 ≡ c.args.id = omega arith in
-    c.replace.ensures.instances ∙ ap (set is k) c.with_share-instance.ensures
-    ∙ share_at is c.args.id c.args.p k c.index-2.result.now t.numbered (omega arith) at c.index-2.ensures
-
-pub replace-requires-clause-role : goal.replace-requires-clause-role
-replace-requires-clause-role c =
-    let is = c.args.self.now.instances.items in let k = c.place_of-place.result in let x = c.index-2.result.now in
-    let issued = awaits_issued is c.args.id c.args.p c.requires in
-    ap role_of c.with_share-instance.ensures ∙ share_role c.args.p x
-    ∙ ap role_of (c.index-2.ensures ∙ get_or_default is k x c.with_share-instance.result (omega arith))
-
-pub returns-clause-count : goal.returns-clause-count
-returns-clause-count c =
-    let is = c.args.self.now.instances.items in let k = c.place_of-place.result in
-    let issued = awaits_issued is c.args.id c.args.p c.requires in
-    let at : k + 1 ≡ c.args.id = omega arith in
-    ap Some (c.outcome.ensures ∙ ap outcome c.missing-missing.ensures)
-    ∙ count_at is c.args.id c.args.p k c.index.result.now (omega arith) at c.index.ensures
+pub invariant_of-self : goal.invariant_of-self
+invariant_of-self c =
+    let t = c.args.self.now in let is = t.instances.items in
+    let js = c.mark.new.instances.items in
+    let items : js ≡ after_share c.args.id c.args.p is = c.mark.ensures.items in
+    let roles : map role_of js ≡ map role_of is = ap (map role_of) items ∙ share_roles c.args.id c.args.p is in
+    let number = number_kept is js roles in
+    record {
+      few = rw number t.few;
+      numbered = ids_kept is js roles ∙ rw number t.numbered;
+      briefed = t.briefed ∙ sym roles;
+      rows = t.rows ∙ sym (row_counts_kept t.params is js roles);
+      fits = t.fits;
+      alive = c.count_share.ensures.items ∙ ap (map (counted_at c.args.id c.args.p)) t.alive ∙ sym (live_counted is c.args.id c.args.p t.numbered c.requires) ∙ ap live_ones (sym items);
+      counted = λ σ. t.counted σ ∙ sym (attempts_kept σ is js roles);
+      room_for_instances = omega (arith, t.room_for_instances, c.mark.ensures.len, c.mark.ensures.capacity);
+      room_for_briefs = t.room_for_briefs;
+      room_for_sums = t.room_for_sums;
+      room_for_live = omega (arith, t.room_for_live, c.count_share.ensures.len, c.count_share.ensures.capacity);
+      room_for_attempts = t.room_for_attempts;
+    }
