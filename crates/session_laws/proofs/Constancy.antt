@@ -92,14 +92,14 @@ found_later s t id i later issued =
     }
 
 pub issued_ones_stay : IssuedOnesStay
-issued_ones_stay w seeds s t id i y issued alive =
+issued_ones_stay w seeds s t id i y issued =
     let place = id - 1 in
     let here = placed s.instances id i issued in
     let below : place < length s.instances = slice_get_within s.instances place i here in
     let at = get_or_from_slice_get s.instances place i i here in
     let x = found_later s t id i y.later issued in
     let role = same_role i x.now x.same in
-    let polys = polys_stay w seeds s t i y.kept (keyed w s y.grounded) y.kept_later y.later (place, below, at) alive
+    let polys = polys_stay w seeds s t i y.kept (keyed w s y.grounded) y.kept_later y.later (place, below, at)
     ∙ ap (λ (z : Role). polys_of w seeds (keys_in w seeds t.instances) z) role in (
       x.now,
       x.there,

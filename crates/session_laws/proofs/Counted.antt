@@ -109,7 +109,7 @@ module _ (p : Params) (w : Setting) (seeds : List (List ℕ)) (s : State) (h : S
     now = keys_in w seeds t.instances
 
     its_polys : polys ≡ polys_of w seeds now (role_of i)
-    its_polys = polys_stay w seeds s t i y.kept (keyed w s y.grounded) then_ later issued (opened_lives i opened_still)
+    its_polys = polys_stay w seeds s t i y.kept (keyed w s y.grounded) then_ later issued
 
     pub counted_told : Told w seeds now added t.instances
     unfolding with_rows
@@ -117,7 +117,7 @@ module _ (p : Params) (w : Setting) (seeds : List (List ℕ)) (s : State) (h : S
       | itself it ↦
           let role : role_of j ≡ role_of i = ap (λ (z : Instance). role_of z) it ∙ share_kept in
           ap (λ (z : Role). held_polys h z.id) role ∙ held_holds.told i issued (opened_lives i opened_still) ∙ its_polys ∙ ap (λ (z : Role). polys_of w seeds now z) (sym role)
-      | another n other ↦ held_holds.told j n alive ∙ polys_stay w seeds s t j y.kept (keyed w s y.grounded) then_ later n alive
+      | another n other ↦ held_holds.told j n alive ∙ polys_stay w seeds s t j y.kept (keyed w s y.grounded) then_ later n
     ]
 
     pub counted_sums : Summed w seeds now added t.instances
@@ -127,5 +127,5 @@ module _ (p : Params) (w : Setting) (seeds : List (List ℕ)) (s : State) (h : S
           ap (λ (z : Role). held_sums added z.id) role ∙ added_sums ∙ share_sums now its_polys ∙ ap (sums_of w seeds now) (sym it)
       | another n other ↦
           other_sums j n other ∙ held_holds.sums j n alive
-          ∙ sums_stay w seeds keys now j (polys_stay w seeds s t j y.kept (keyed w s y.grounded) then_ later n alive)
+          ∙ sums_stay w seeds keys now j (polys_stay w seeds s t j y.kept (keyed w s y.grounded) then_ later n)
     ]

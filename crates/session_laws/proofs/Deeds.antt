@@ -74,8 +74,8 @@ module _ (p : Params) (w : Setting) (seeds : List (List ℕ)) (s : State) (h : S
     stays : ((i : Instance) → Contains t.instances i → IsLive i → Contains s.instances i) → ((c k : ℕ) → is_given t c k ≡ true → is_given s c k ≡ true)
         → ((c : ℕ) → is_settled (circuit t.circuits c) ≡ true → circuit t.circuits c ≡ circuit s.circuits c) → Holds w seeds t h
     stays there given settled = record {
-      told = λ i m alive. held.told i (there i m alive) alive ∙ polys_stay w seeds s t i y.kept keys_before kept later (there i m alive) alive;
-      sums = λ i m alive. held.sums i (there i m alive) alive ∙ sums_stay w seeds keys (keys_in w seeds t.instances) i (polys_stay w seeds s t i y.kept keys_before kept later (there i m alive) alive);
+      told = λ i m alive. held.told i (there i m alive) alive ∙ polys_stay w seeds s t i y.kept keys_before kept later (there i m alive);
+      sums = λ i m alive. held.sums i (there i m alive) alive ∙ sums_stay w seeds keys (keys_in w seeds t.instances) i (polys_stay w seeds s t i y.kept keys_before kept later (there i m alive));
       inputs = λ c k e. same_input c k (given c k e);
       outputs = λ c l e. same_output c l (subst (λ (z : CircuitState). is_settled z ≡ true) (settled c e) e);
       answers = λ c l e. held.answers c l (sym (settled c (rw e refl)) ∙ e);

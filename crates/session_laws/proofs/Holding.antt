@@ -186,7 +186,7 @@ module _ (p : Params) (w : Setting) (seeds : List (List ℕ)) (s t : State) (h :
     | lapsed void ↦ absurd (both_ways (is_void i.stage) alive void)
     | stayed there ↦
         below h.told (map (polys_told h) (drop (length h.told) t.instances)) i s.instances [] kept.numbered there told
-        ∙ holds.told i there alive ∙ polys_stay w seeds s t i kept y then_ later there alive
+        ∙ holds.told i there alive ∙ polys_stay w seeds s t i kept y then_ later there
     | came u ↦
         let l = u.id in
         above h.told (polys_told h) i t.instances [] then_.numbered m (omega arith) ∙ new_told i m u i.signature refl
@@ -198,7 +198,7 @@ module _ (p : Params) (w : Setting) (seeds : List (List ℕ)) (s t : State) (h :
     | lapsed void ↦ absurd (both_ways (is_void i.stage) alive void)
     | stayed there ↦
         below h.sums (map (zero_sums w) (drop (length h.sums) t.instances)) i s.instances [] kept.numbered there sums
-        ∙ holds.sums i there alive ∙ sums_stay w seeds before now i (polys_stay w seeds s t i kept y then_ later there alive)
+        ∙ holds.sums i there alive ∙ sums_stay w seeds before now i (polys_stay w seeds s t i kept y then_ later there)
     | came u ↦
         let l = u.id in
         above h.sums (zero_sums w) i t.instances [] then_.numbered m (omega arith) ∙ fresh_sums w seeds now i (setting_modulus p w setting) u.unsent

@@ -18,17 +18,17 @@ use Rattle.proto_names.specs.declared.signature.Signature.TheVariants.{Pk, Rlk1,
 use Rattle.proto_names.specs.declared.instance.Instance.{Instance}
 use Rattle.session_rules.specs.States.{State, circuit, plan, is_given, has_done}
 use Rattle.session_rules.specs.Steps.{is_given_input, has_turn, has_keys}
-use Rattle.session_rules.specs.Facts.{Kept, IsLater, IsLive, IsSameLater, is_begun}
+use Rattle.session_rules.specs.Facts.{Kept, IsLater, IsSameLater, is_begun}
 use Rattle.session_rules.specs.Grounds.{Grounded}
 use Rattle.session_rules.proofs.Contained.{find_some, find_none, none_from_find}
 use Rattle.session_rules.proofs.Readiness.{all_at}
-use Rattle.session_rules.proofs.Marks.{IsDone, done_is, done_from, one_number, complete_lives, live_cases}
+use Rattle.session_rules.proofs.Marks.{IsDone, done_is, done_from, one_number, complete_lives}
 use Rattle.session_spec.specs.Settings.{Setting, rules, nodes_at, input_count}
 use Rattle.session_spec.specs.Shares.{key_of, relin_rows, rotation_rows}
 use Rattle.session_spec.specs.Outputs.{done_instance, key_from, key_in, relin_from, relin_in, rotation_from, rotation_in, keys_in, inputs_of, output_of, told_by, polys_of}
 use Rattle.session_laws.specs.Laws.{OutputsStay}
 use Rattle.session_laws.specs.Constancy.{IsSameCircuit}
-use Rattle.session_laws.proofs.Plans.{plan_inputs}
+use Rattle.session_laws.proofs.Plans.{plan_inputs, settled_begun}
 
 -- ---- the complete instance of a signature
 
@@ -213,13 +213,10 @@ output_stays w seeds s t c y k l e = (circuit_stays w seeds s t c k l (y.begun c
 pub outputs_stay : OutputsStay
 outputs_stay w seeds s t c before g k l e = output_stays w seeds s t c (keyed w s g) k l e
 
--- ---- what the parties of a live instance are told
+-- ---- what the parties of an instance are told, also where it is void
 
-dec_begun : (w : Setting) (s : State) (i : Instance) (c : ℕ) → Kept (rules w) s → Contains s.instances i → IsLive i → i.signature ≡ Dec c → is_begun (circuit s.circuits c) ≡ true
-dec_begun w s i c k m alive e = elim (live_cases i.stage alive) [
-  | inl opened ↦ rw ((k.decrypts i m).opened c e opened) refl
-  | inr complete ↦ rw ((k.decrypts i m).complete c e complete) refl
-]
+dec_begun : (w : Setting) (s : State) (i : Instance) (c : ℕ) → Kept (rules w) s → Contains s.instances i → i.signature ≡ Dec c → is_begun (circuit s.circuits c) ≡ true
+dec_begun w s i c k m e = settled_begun (circuit s.circuits c) ((k.decrypts i m).settled c e)
 
 told_stays : (w : Setting) (seeds : List (List ℕ)) (keys other : ℕ → Keys) (σ : Signature) (role : Role) → ((c : ℕ) → σ ≡ Dec c → output_of w seeds (keys c) c ≡ output_of w seeds (other c) c)
     → told_by w seeds keys σ role ≡ told_by w seeds other σ role
@@ -230,7 +227,7 @@ told_stays w seeds keys other Rlk2 role h = refl
 told_stays w seeds keys other (Rot g) role h = refl
 told_stays w seeds keys other (Dec c) role h = ap (λ (z : Cipher). z.c1 ∷ []) (h c refl)
 
-pub polys_stay : (w : Setting) (seeds : List (List ℕ)) (s t : State) (i : Instance) → Kept (rules w) s → Keyed w s → Kept (rules w) t → IsLater s t → Contains s.instances i → IsLive i
+pub polys_stay : (w : Setting) (seeds : List (List ℕ)) (s t : State) (i : Instance) → Kept (rules w) s → Keyed w s → Kept (rules w) t → IsLater s t → Contains s.instances i
     → polys_of w seeds (keys_in w seeds s.instances) (role_of i) ≡ polys_of w seeds (keys_in w seeds t.instances) (role_of i)
-polys_stay w seeds s t i before y k l m alive =
-    told_stays w seeds (keys_in w seeds s.instances) (keys_in w seeds t.instances) i.signature (role_of i) (λ c e. output_stays w seeds s t c y k l (dec_begun w s i c before m alive e))
+polys_stay w seeds s t i before y k l m =
+    told_stays w seeds (keys_in w seeds s.instances) (keys_in w seeds t.instances) i.signature (role_of i) (λ c e. output_stays w seeds s t c y k l (dec_begun w s i c before m e))

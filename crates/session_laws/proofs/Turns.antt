@@ -1,5 +1,5 @@
 -- What is brought is honest at a later state, where it was read at an earlier one.
-use Rattle.std.proofs.Common.{◌≡◌, ◌∙◌, sym, ap, subst, refl, ℕ, true, inl, inr, List, length, Some}
+use Rattle.std.proofs.Common.{◌≡◌, ◌∙◌, sym, ap, subst, ℕ, true, inl, inr, List, length, Some}
 use Rattle.std.proofs.lemmas.Bool.{both_ways, cases_Bool}
 use Rattle.share_spec.specs.Sets.{has}
 use Rattle.ring_spec.specs.Pairs.{Key}
@@ -9,7 +9,7 @@ use Rattle.proto_names.specs.declared.signature.Signature.{Signature}
 use Rattle.proto_names.specs.declared.sets.PartySet.{PartySet}
 use Rattle.proto_names.specs.declared.instance.Instance.{Instance}
 use Rattle.session_rules.specs.States.{State}
-use Rattle.session_rules.specs.Facts.{IsLive, IsSameLater}
+use Rattle.session_rules.specs.Facts.{IsSameLater}
 use Rattle.session_rules.proofs.Marks.{Lacks, lacks_is, lacks_from}
 use Rattle.session_spec.specs.Settings.{Setting, gadget_rows}
 use Rattle.session_spec.specs.Outputs.{keys_in, input_of, share_of}
@@ -30,12 +30,12 @@ lacked p i now same l = record {
   ];
 }
 
--- an instance that lives has the same shares later
+-- an instance has the same shares later
 same_share : (w : Setting) (seeds : List (List ℕ)) (s t : State) → LeadsOn w s t → (id p : ℕ) (i now : Instance)
-    → instance s.instances id ≡ Some i → IsLive i → instance t.instances id ≡ Some now
+    → instance s.instances id ≡ Some i → instance t.instances id ≡ Some now
     → share_of w seeds (keys_in w seeds s.instances) i p ≡ share_of w seeds (keys_in w seeds t.instances) now p
-same_share w seeds s t y id p i now issued alive there =
-    let stays = issued_ones_stay w seeds s t id i y issued alive in
+same_share w seeds s t y id p i now issued there =
+    let stays = issued_ones_stay w seeds s t id i y issued in
     let it : stays.0 ≡ now = let both : Some stays.0 ≡ Some now = sym stays.1 ∙ there in cc in
     subst (λ (z : Instance). share_of w seeds (keys_in w seeds s.instances) i p ≡ share_of w seeds (keys_in w seeds t.instances) z p) it (stays.2.shares p)
 
@@ -46,9 +46,8 @@ share_stands w seeds s t y id p rows i issued brings now there lacking shape =
     let it : x.now ≡ now = let both : Some x.now ≡ Some now = sym x.there ∙ there in cc in
     let same : IsSameLater i now = subst (IsSameLater i) it x.same in
     let before = lacked p i now same (lacks_is p now lacking) in
-    let alive : IsLive i = rw before.opened refl in
     let rows_are : length rows ≡ rows_of i.signature (gadget_rows w) = shape ∙ ap (λ (z : Signature). rows_of z (gadget_rows w)) same.signature in
-    brings i issued (lacks_from p i before) rows_are ∙ same_share w seeds s t y id p i now issued alive there
+    brings i issued (lacks_from p i before) rows_are ∙ same_share w seeds s t y id p i now issued there
 
 pub content_stands : ContentStandsOn
 content_stands w seeds s t y = record {

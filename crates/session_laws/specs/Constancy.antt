@@ -9,7 +9,7 @@ use Rattle.proto_names.specs.declared.instance.Instance.{Instance}
 use Rattle.session_rules.specs.declared.call.Entry.{Entry}
 use Rattle.session_rules.specs.States.{State, is_given, has_done}
 use Rattle.session_rules.specs.Steps.{ready}
-use Rattle.session_rules.specs.Facts.{Kept, IsLater, IsLive}
+use Rattle.session_rules.specs.Facts.{Kept, IsLater}
 use Rattle.session_rules.specs.Grounds.{Grounded}
 use Rattle.session_rules.specs.Histories.{state_after}
 use Rattle.session_spec.specs.Settings.{Setting, rules}
@@ -59,10 +59,10 @@ pub record IsSameInstance (w : Setting) (seeds : List Seed) (keys now : ℕ → 
   pub polys : polys_of w seeds keys (role_of i) ≡ polys_of w seeds now (role_of later)
   pub shares : (j : ℕ) → share_of w seeds keys i j ≡ share_of w seeds now later j
 
--- an instance that is opened or complete has the same ones later under its number, also where it is void by then
+-- an instance that is issued has the same ones later under its number, also where it is void by then, or already
 abbrev pub IssuedOnesStay : Type 0
 IssuedOnesStay =
     (w : Setting) (seeds : List Seed) (s t : State) (id : ℕ) (i : Instance)
-    → LeadsOn w s t → instance s.instances id ≡ Some i → IsLive i
+    → LeadsOn w s t → instance s.instances id ≡ Some i
     → (now : Instance) × (instance t.instances id ≡ Some now)
     × IsSameInstance w seeds (keys_in w seeds s.instances) (keys_in w seeds t.instances) i now

@@ -24,8 +24,8 @@ pub fn constancy()
 {}
 
 /// What is defined once is the same in every longer history: the public key that is complete, the encryption of an
-/// input that is given, the inputs and the output of a circuit that is ready, and of an instance that is opened or
-/// complete what its shares are made from and each party's honest share.
+/// input that is given, the inputs and the output of a circuit that is ready, and of an instance that is issued, also of
+/// a void one, what its shares are made from and each party's honest share.
 pub fn longer_histories()
     ensures histories { HistoriesLeadOn }
     ensures key { KeyStays }
