@@ -1,10 +1,7 @@
--- Where the public key is the only key that is needed, each instance is of it or a decryption, so its shares have
--- one row; and what a completed one leaves as it was.
-use Rattle.std.proofs.Common.{◌≡◌, ◌∙◌, sym, ap, subst, refl, ℕ, inl, inr, List, length, Contains, length-set}
-use Rattle.std.specs.Prelude.{All}
+-- What a completed instance leaves as it was, and how many keys are needed.
+use Rattle.std.proofs.Common.{◌≡◌, ◌∙◌, sym, ap, refl, ℕ, ◌≤◌, Bool, true, false, cond, inl, inr, List, [], ◌∷◌, ◌++◌, map, length, length-set, arith}
+use Rattle.std.specs.List.{list_any}
 use Rattle.std.proofs.lemmas.List.{length-map}
-use Rattle.std.proofs.lemmas.List.Elements.{All-contains}
-use Rattle.proto_names.specs.Names.{rows_of}
 use Rattle.proto_names.specs.Instances.{counted_at, after_share}
 use Rattle.proto_names.specs.declared.signature.Signature.{Signature}
 use Rattle.proto_names.specs.declared.signature.Signature.TheVariants.{Pk, Rlk1, Rlk2, Rot, Dec}
@@ -12,30 +9,14 @@ use Rattle.proto_names.specs.declared.instance.Instance.{Instance}
 use Rattle.session_rules.specs.declared.fixed.Fixed.{Fixed}
 use Rattle.session_rules.specs.declared.state.CircuitState.{CircuitState}
 use Rattle.session_rules.specs.declared.state.CircuitState.TheVariants.{Evaluated, Answered}
-use Rattle.session_rules.specs.States.{State, circuit}
-use Rattle.session_rules.specs.Issues.{keys}
+use Rattle.session_rules.specs.States.{circuit}
+use Rattle.session_rules.specs.Issues.{wants_key, wants_relin, keys}
 use Rattle.session_rules.specs.Deeds.{answered_by}
-use Rattle.session_rules.specs.Grounds.{Grounded}
 use Rattle.session_rules.proofs.Shares.{decides_dec, answered_its, answered_other}
 use Rattle.session_spec.specs.Settings.{Setting}
 use Rattle.session_spec.specs.Stores.{Store, with_rows, with_answer}
-use Rattle.session_state.specs.Standings.{rules_of}
+use Rattle.session_state.specs.Completions.{HasSumsAlone}
 use Rattle.session_state.specs.declared.standing.Standing.{Standing}
-use Rattle.session_state.specs.Parts.{IsPk, IsOfOne}
-
-pub asked_one : (f : Fixed) (s : State) (i : Instance) → Grounded f s → All IsPk (keys f) → Contains s.instances i → IsOfOne i.signature
-asked_one f s i g only m = elim (g.asked i m) [
-  | inl key ↦ let pk : i.signature ≡ Pk = All-contains IsPk (keys f) i.signature only key in subst (λ (σ : Signature). IsOfOne σ) (sym pk) tt
-  | inr dec ↦ subst (λ (σ : Signature). IsOfOne σ) (sym dec.1) tt
-]
-
-pub one_row : (σ : Signature) (l : ℕ) → IsOfOne σ → rows_of σ l ≡ 1
-unfolding rows_of
-one_row Pk l h = refl
-one_row Rlk1 l h = absurd h
-one_row Rlk2 l h = absurd h
-one_row (Rot g) l h = absurd h
-one_row (Dec c) l h = refl
 
 pub same_number : (id p : ℕ) (is : List Instance) → length (after_share id p is) ≡ length is
 unfolding after_share
@@ -72,7 +53,37 @@ pub rows_outputs : (w : Setting) (id : ℕ) (rows : List (List ℕ)) (h : Store)
 unfolding with_rows
 rows_outputs w id rows h = refl
 
--- ---- what a standing needs
+pub answer_sums : (w : Setting) (id : ℕ) (σ : Signature) (h : Store) → (with_answer w id σ h).sums ≡ h.sums
+unfolding with_answer
+answer_sums w id Pk h = refl
+answer_sums w id Rlk1 h = refl
+answer_sums w id Rlk2 h = refl
+answer_sums w id (Rot g) h = refl
+answer_sums w id (Dec c) h = refl
 
-pub only_pk : (st : Standing) → All IsPk (keys (rules_of st))
-only_pk st = subst (λ (xs : List Signature). All IsPk xs) (st.needed_are ∙ ap keys st.rules_are) st.only_keys
+-- where the instance gives nothing but its sums
+pub sums_answer : (w : Setting) (id : ℕ) (σ : Signature) (h : Store) → HasSumsAlone σ → with_answer w id σ h ≡ h
+unfolding with_answer
+sums_answer w id Pk h alone = absurd alone
+sums_answer w id Rlk1 h alone = refl
+sums_answer w id Rlk2 h alone = refl
+sums_answer w id (Rot g) h alone = refl
+sums_answer w id (Dec c) h alone = absurd alone
+
+-- ---- the keys that are needed
+
+pub few_keys : (f : Fixed) → length f.turns ≤ 16 → length (keys f) ≤ 19
+unfolding keys
+few_keys f few = at (list_any wants_key f.plans) (list_any wants_relin f.plans)
+  where
+    at : (a b : Bool) → length (cond a (Pk ∷ []) [] ++ cond b (Rlk1 ∷ Rlk2 ∷ []) [] ++ map Rot f.turns) ≤ 19
+    at true true = omega (arith, length-map f.turns Rot)
+    at true false = omega (arith, length-map f.turns Rot)
+    at false true = omega (arith, length-map f.turns Rot)
+    at false false = omega (arith, length-map f.turns Rot)
+
+pub needed_few : (st : Standing) → length st.needed.items ≤ 32
+needed_few st =
+    let few = few_keys st.rules st.few_turns in
+    let same = ap length st.needed_are in
+    omega arith

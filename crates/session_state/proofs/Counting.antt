@@ -1,11 +1,10 @@
 -- What a share that is counted leaves as it was: what is held, and the public key.
-use Rattle.std.proofs.Common.{◌≡◌, ◌≢◌, ◌∙◌, sym, ap, subst, refl, ℕ, ◌-◌, ◌<◌, ◌≤◌, Bool, true, false, not, nat_eq, cond, List, [], ◌∷◌, length, map, get_or, set, slice_index_or, Contains, Option, Some, None, arith, length-set}
+use Rattle.std.proofs.Common.{◌≡◌, ◌≢◌, ◌∙◌, sym, ap, subst, refl, ℕ, ◌-◌, ◌<◌, ◌≤◌, Bool, true, false, not, nat_eq, cond, List, [], length, map, get_or, set, slice_index_or, Contains, Option, Some, None, arith, length-set}
 use Rattle.std.specs.Prelude.{if◌then◌else◌, IsTrue}
 use Rattle.std.specs.List.{slice_get}
 use Rattle.std.proofs.lemmas.Bool.{eqb-true, eqb-false, ne_eqb}
 use Rattle.std.proofs.lemmas.List.{get_or-set_other, get_or-set_same, get_or_default, get_or-map, length-map}
 use Rattle.std.proofs.lemmas.Option.{slice_get_within, get_or_from_slice_get, slice_get_read}
-use Rattle.ring_spec.specs.Ring.{ring_sum}
 use Rattle.param_set.specs.declared.params.Params.{Params}
 use Rattle.param_set.specs.Moduli.{digit_rows}
 use Rattle.proto_names.specs.Names.{rows_of, is_void}
@@ -13,7 +12,7 @@ use Rattle.proto_names.specs.Instances.{instance, missing, lacks, with_share, co
 use Rattle.proto_names.specs.declared.signature.Signature.TheVariants.{Pk}
 use Rattle.proto_names.specs.declared.instance.Instance.{Instance}
 use Rattle.proto_names.specs.declared.instance.Stage.TheVariants.{Opened, Complete}
-use Rattle.instance_table.specs.Tables.{awaits, stands, told, row_count, row_counts, row_sum, rows_sum, after_rows}
+use Rattle.instance_table.specs.Tables.{awaits, stands, told, row_count, row_counts, rows_sum, after_rows}
 use Rattle.instance_table.proofs.Places.{told_entry}
 use Rattle.session_rules.specs.declared.fixed.Fixed.{Fixed}
 use Rattle.session_rules.specs.declared.deed.Deed.TheVariants.{Counts}
@@ -29,7 +28,7 @@ use Rattle.session_spec.specs.Settings.{Setting, rules}
 use Rattle.session_spec.specs.Honesty.{Matches}
 use Rattle.session_spec.specs.Stores.{Store, held_key}
 use Rattle.session_state.specs.Parts.{AreTold, Holds}
-use Rattle.session_state.specs.Standings.{rules_of}
+use Rattle.session_state.specs.Standings.{rules_of, state}
 use Rattle.session_state.specs.declared.standing.Standing.{Standing}
 use Rattle.session_state.specs.Wanted.{IsWanted}
 use Rattle.session_state.proofs.Keys.{SameKeys, key_within, same_held}
@@ -156,7 +155,7 @@ sums_within p is sums id i e found =
     omega arith
 
 -- as many rows as the sums have
-pub rows_fit : (p : Params) (is : List Instance) (sums : List (List (List ℕ))) (id n : ℕ) (i : Instance) → map row_count sums ≡ map (row_counts p) is
+rows_fit : (p : Params) (is : List Instance) (sums : List (List (List ℕ))) (id n : ℕ) (i : Instance) → map row_count sums ≡ map (row_counts p) is
     → instance is id ≡ Some i → rows_of i.signature (digit_rows p.q p.digit_bits) ≡ n → n ≡ length (slice_index_or sums (id - 1) [])
 rows_fit p is sums id n i e found shape =
     let at = stands_at is id i found in
@@ -166,6 +165,13 @@ rows_fit p is sums id n i e found shape =
     let b : get_or (map (row_counts p) is) (id - 1) 0 ≡ row_counts p (get_or is (id - 1) i) = get_or-map (row_counts p) is (id - 1) i 0 within in
     sym shape ∙ ap (row_counts p) (sym (at.here i)) ∙ sym b ∙ ap (λ (xs : List ℕ). get_or xs (id - 1) 0) (sym e) ∙ a
 
+-- a share that is wanted has as many as the sums of its instance
+pub wanted_rows : (st : Standing) (id party n : ℕ) (i : Instance) → IsWanted (rules_of st) (state st) id party n i → n ≡ length (slice_index_or st.table.sums.items (id - 1) [])
+wanted_rows st id party n i want =
+    let t = st.table in
+    let shape : rows_of i.signature (digit_rows st.params.q st.params.digit_bits) ≡ n = rw (← gadget st) want.shape in
+    rows_fit st.params t.instances.items t.sums.items id n i (rw (← st.table_is) t.rows) want.issued shape
+
 -- what the sums are then
 pub sums_then : (q n id : ℕ) (rows : List (List ℕ)) (is : List Instance) (sums : List (List (List ℕ))) (held : List (List ℕ)) → id - 1 < length sums → told is sums id ≡ Some held
     → get_or (after_rows q n id rows sums) (id - 1) [] ≡ rows_sum q n held rows
@@ -173,11 +179,6 @@ unfolding after_rows
 sums_then q n id rows is sums held within e =
     get_or-set_same sums (id - 1) (rows_sum q n (get_or sums (id - 1) []) rows) [] within
     ∙ ap (λ (xs : List (List ℕ)). rows_sum q n xs rows) (told_entry is sums id held [] e)
-
--- of one row
-pub one_sum : (q n : ℕ) (fs gs : List (List ℕ)) → length fs ≡ 1 → rows_sum q n fs gs ≡ ring_sum q n (get_or fs 0 []) (get_or gs 0 []) ∷ []
-unfolding rows_sum row_sum
-one_sum q n fs gs e = rw e refl
 
 -- ---- a share that isn't the last
 

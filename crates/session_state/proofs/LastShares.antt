@@ -1,5 +1,5 @@
 -- What the last share of an instance leaves as it was, and what it brings: the public key, or an answer.
-use Rattle.std.proofs.Common.{◌≡◌, ◌∙◌, sym, ap, subst, refl, ℕ, ◌<◌, true, inl, inr, List, [], length, map, get_or, set, slice_index_or, Contains, Option, Some, None, length-set, arith}
+use Rattle.std.proofs.Common.{◌≡◌, ◌≢◌, ◌∙◌, sym, ap, subst, refl, ℕ, ◌<◌, true, inl, inr, List, [], length, map, get_or, set, slice_index_or, Contains, Option, Some, None, length-set, arith}
 use Rattle.std.proofs.lemmas.Bool.{cases_eq, cases_lt, eq-eqb}
 use Rattle.std.proofs.lemmas.List.{get_or-set_other, get_or-set_same, get_or_past, length-map}
 use Rattle.std.specs.Option.{option_map}
@@ -7,7 +7,8 @@ use Rattle.ring_spec.specs.Ring.{IsPoly}
 use Rattle.bfv_spec.specs.Shares.{pk_from}
 use Rattle.param_set.specs.declared.params.Params.{Params}
 use Rattle.proto_names.specs.Instances.{missing, with_share, counted_at, after_share}
-use Rattle.proto_names.specs.declared.signature.Signature.TheVariants.{Pk, Dec}
+use Rattle.proto_names.specs.declared.signature.Signature.{Signature}
+use Rattle.proto_names.specs.declared.signature.Signature.TheVariants.{Pk, Rlk1, Rlk2, Rot, Dec}
 use Rattle.proto_names.specs.declared.instance.Instance.{Instance}
 use Rattle.proto_names.specs.declared.instance.Stage.TheVariants.{Complete}
 use Rattle.instance_table.specs.Tables.{after_rows}
@@ -24,11 +25,26 @@ use Rattle.session_spec.specs.Settings.{Setting}
 use Rattle.session_spec.specs.Honesty.{Matches}
 use Rattle.session_spec.specs.Outputs.{key_instance}
 use Rattle.session_spec.specs.Stores.{Store, held_sums, key_by, held_key}
-use Rattle.session_state.specs.Completions.{last_counted}
+use Rattle.session_state.specs.Completions.{HasSumsAlone, last_counted}
 use Rattle.session_state.specs.Parts.{HasPlain, Holds}
 use Rattle.session_state.specs.Wanted.{IsWanted}
 use Rattle.session_state.proofs.Keys.{key_within, key_is, same_held}
 use Rattle.session_state.proofs.Counting.{told_later, counted_next, same_keys, other_sums}
+
+-- signatures whose complete instances give nothing but their sums: they answer no circuit, and aren't that of the public key
+no_answer : (σ : Signature) (circuits : List CircuitState) → HasSumsAlone σ → answered_by σ circuits ≡ circuits
+unfolding answered_by
+no_answer Pk circuits alone = absurd alone
+no_answer Rlk1 circuits alone = refl
+no_answer Rlk2 circuits alone = refl
+no_answer (Rot g) circuits alone = refl
+no_answer (Dec c) circuits alone = absurd alone
+
+pub not_key : (σ : Signature) → HasSumsAlone σ → σ ≢ Pk
+not_key σ alone e = subst (λ (z : Signature). HasSumsAlone z) e alone
+
+pub dec_not_key : (σ : Signature) (c : ℕ) → σ ≡ Dec c → σ ≢ Pk
+dec_not_key σ c a b = cc
 
 -- a circuit that is evaluated is there
 pub evaluated_there : (circuits : List CircuitState) (c : ℕ) → circuit circuits c ≡ Evaluated → c < length circuits
@@ -99,6 +115,9 @@ module _ (p : Params) (f : Fixed) (s : State) (id party rows : ℕ) (i : Instanc
   unfolding answered_by
   key_circuits e = rw e refl
 
+  pub sums_circuits : HasSumsAlone i.signature → answered_by i.signature s.circuits ≡ s.circuits
+  sums_circuits alone = no_answer i.signature s.circuits alone
+
   pub last_matches : (w : Setting) (h : Store) (q n : ℕ) (poly : List (List ℕ)) (answers : List (Option (List ℕ))) → length answers ≡ length h.answers
       → Matches w s h → Matches w Then (record h { sums = after_rows q n id poly h.sums; answers = answers })
   unfolding after_rows
@@ -110,12 +129,14 @@ module _ (p : Params) (f : Fixed) (s : State) (id party rows : ℕ) (i : Instanc
     answers = many ∙ m.answers;
   }
 
-  pub key_holds : (h : Store) (q n : ℕ) (poly : List (List ℕ)) → i.signature ≡ Pk → Holds p s h → Holds p Then (record h { sums = after_rows q n id poly h.sums })
-  key_holds h q n poly e holds = record {
+  -- where no circuit is answered
+  pub same_holds : (h : Store) (q n : ℕ) (poly : List (List ℕ)) → answered_by i.signature s.circuits ≡ s.circuits → Holds p s h
+      → Holds p Then (record h { sums = after_rows q n id poly h.sums })
+  same_holds h q n poly e holds = record {
     told = told_later p s Then h.told last_next.1 same_length holds.told;
     inputs = holds.inputs;
-    outputs = λ c l settled. holds.outputs c (subst (λ (z : List CircuitState). c < length z) (key_circuits e) l) (subst (λ (z : List CircuitState). is_settled (circuit z c) ≡ true) (key_circuits e) settled);
-    answers = λ c l answered. holds.answers c (subst (λ (z : List CircuitState). c < length z) (key_circuits e) l) (subst (λ (z : List CircuitState). circuit z c ≡ Answered) (key_circuits e) answered);
+    outputs = λ c l settled. holds.outputs c (subst (λ (z : List CircuitState). c < length z) e l) (subst (λ (z : List CircuitState). is_settled (circuit z c) ≡ true) e settled);
+    answers = λ c l answered. holds.answers c (subst (λ (z : List CircuitState). c < length z) e l) (subst (λ (z : List CircuitState). circuit z c ≡ Answered) e answered);
   }
 
   -- ---- an answer
@@ -152,10 +173,12 @@ module _ (p : Params) (f : Fixed) (s : State) (id party rows : ℕ) (i : Instanc
     answers = λ d l answered. answer_there h c d value (was_there c d e l) there fits e holds (subst (λ (z : List CircuitState). circuit z d ≡ Answered) (dec_circuits c e) answered);
   }
 
-  pub dec_keyed : (w : Setting) (h : Store) (q n : ℕ) (poly : List (List ℕ)) (answers : List (Option (List ℕ))) (c : ℕ) → i.signature ≡ Dec c
+  -- ---- the public key stays, where the instance is of another signature
+
+  pub same_keyed : (w : Setting) (h : Store) (q n : ℕ) (poly : List (List ℕ)) (answers : List (Option (List ℕ))) → i.signature ≢ Pk
       → held_key w (record h { sums = after_rows q n id poly h.sums; answers = answers }) (after_share id party s.instances) ≡ held_key w h s.instances
   unfolding after_rows
-  dec_keyed w h q n poly answers c e =
+  same_keyed w h q n poly answers other =
       let g : Store = record h { sums = after_rows q n id poly h.sums; answers = answers } in
-      same_held f w h g Then s.instances last_next.0 (same_keys f s id party rows i k want (λ d. let a = d.signature in let b : (with_share party i).signature ≡ Dec c = same_signature ∙ e in cc))
+      same_held f w h g Then s.instances last_next.0 (same_keys f s id party rows i k want (λ d. other (sym same_signature ∙ d.signature)))
       (λ j e. let in_ = key_within s.instances j e in other_sums f s id party rows i k want h.sums _ j in_.within in_.done.complete)

@@ -1,3 +1,5 @@
+pub mod Live
+pub mod Sources
 pub mod Planned
 pub mod Steps
 pub mod Behind
@@ -17,3 +19,4 @@ pub mod Onward
 pub mod Ended
 pub mod Losses
 pub mod Returns
+pub mod Firsts

@@ -25,7 +25,7 @@ use Rattle.session_rules.specs.Facts.{is_settled}
 use Rattle.session_rules.specs.Grounds.{Grounded}
 use Rattle.session_rules.specs.Allowed.{MayTurn, Allows}
 use Rattle.session_rules.proofs.Readiness.{all_at, ready_is}
-use Rattle.session_spec.specs.Settings.{Setting, rules, no_offer, input_count, Keeps, IsSetting, IsSwitchFree, NeedsNoSwitch}
+use Rattle.session_spec.specs.Settings.{Setting, rules, no_offer, input_count, Keeps, IsSetting}
 use Rattle.session_spec.specs.Stores.{Store, held_input, cipher_or}
 use Rattle.session_spec.specs.Honesty.{Matches}
 use Rattle.session_state.specs.Parts.{ciphers_in, IsThere, HasCipher, Holds}
@@ -114,10 +114,6 @@ all_fit p w h c has =
 -- the circuit keeps the rules
 pub circuit_keeps : (p : Params) (w : Setting) (c : ℕ) → IsSetting p w → c < length w.offers → Keeps p (get_or w.offers c no_offer)
 circuit_keeps p w c is l = All-get_or (Keeps p) w.offers c no_offer l is.circuits
-
--- and needs no key switch
-pub circuit_is_free : (w : Setting) (c : ℕ) → NeedsNoSwitch w → c < length w.offers → IsSwitchFree (get_or w.offers c no_offer)
-circuit_is_free w c free l = All-get_or IsSwitchFree w.offers c no_offer l free
 
 -- ---- what holds once it is taken
 

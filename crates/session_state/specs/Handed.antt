@@ -3,7 +3,6 @@ use Rattle.std.specs.Prelude.{◌≡◌, ◌⊎◌, ℕ, Bool, true, false, [], 
 use Rattle.ring_spec.specs.Pairs.{CipherFits}
 use Rattle.param_set.specs.declared.params.Params.{Params}
 use Rattle.circuit_form.specs.Circuits.{first_fault, owners}
-use Rattle.cipher_spec.specs.Ciphers.{is_switch_free}
 use Rattle.circuit_runner.specs.declared.job.Job.{Job}
 use Rattle.proto_names.specs.Roles.{first_groups, last_place}
 use Rattle.proto_names.specs.declared.instance.Instance.{Instance}
@@ -36,10 +35,9 @@ pub record IsJobFor (w : Setting) (h : Store) (c : ℕ) (job : Job) : Type 0 whe
   pub circuit : job.circuit.value ≡ nodes_at w c
   pub inputs : job.inputs ≡ map cipher_or (slice_index_or h.inputs c [])
 
--- it can be evaluated: its circuit keeps the rules and needs no key switch, and it has each input
+-- it can be evaluated, once there are the keys that it needs: its circuit keeps the rules, and it has each input
 pub record CanEvaluate (p : Params) (job : Job) : Type 0 where
   pub circuit : first_fault p.n p.t p.parties job.circuit.value ≡ None
-  pub switch_free : is_switch_free job.circuit.value ≡ true
   pub count : length job.inputs ≡ length (owners job.circuit.value)
   pub inputs : All (CipherFits p.q p.n) job.inputs
 

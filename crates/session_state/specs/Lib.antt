@@ -5,3 +5,4 @@ pub mod Handed
 pub mod Issuings
 pub mod Wanted
 pub mod Completions
+pub mod Losings

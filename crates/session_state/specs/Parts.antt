@@ -1,6 +1,6 @@
 -- The parts of a standing as the setting, the state and the store that they stand for, and what holds of them
 -- whatever the shares were.
-use Rattle.std.specs.Prelude.{◌≡◌, ℕ, ◌<◌, true, List, [], map, length, All, Option, Some, None, is_some, ⊤}
+use Rattle.std.specs.Prelude.{◌≡◌, ℕ, ◌<◌, true, List, [], map, length, All, Option, Some, None, is_some}
 use Rattle.std.specs.declared.alloc.Global.{Global}
 use Rattle.std.specs.declared.sync.Arc.{Arc}
 use Rattle.ring_spec.specs.Ring.{IsPoly}
@@ -12,7 +12,6 @@ use Rattle.proto_names.specs.Names.{polys_of_brief}
 use Rattle.proto_names.specs.Instances.{instance}
 use Rattle.proto_names.specs.Roles.{first_groups}
 use Rattle.proto_names.specs.declared.signature.Signature.{Signature}
-use Rattle.proto_names.specs.declared.signature.Signature.TheVariants.{Pk, Rlk1, Rlk2, Rot, Dec}
 use Rattle.proto_names.specs.declared.instance.Instance.{Instance}
 use Rattle.instance_table.specs.declared.brief.Brief.{Brief}
 use Rattle.session_rules.specs.declared.state.CircuitState.TheVariants.{Answered}
@@ -75,15 +74,3 @@ pub record Holds (p : Params) (s : State) (h : Store) : Type 0 where
   pub inputs : (c k : ℕ) → is_given s c k ≡ true → HasCipher p (held_input h c k)
   pub outputs : (c : ℕ) → c < length s.circuits → is_settled (circuit s.circuits c) ≡ true → HasCipher p (held_output h c)
   pub answers : (c : ℕ) → c < length s.circuits → circuit s.circuits c ≡ Answered → HasPlain p (held_answer h c)
-
--- the one key that circuits without key switches need
-abbrev pub IsPk : Signature → Type 0
-IsPk σ = σ ≡ Pk
-
--- a signature whose shares have one row: the public key, or a decryption
-abbrev pub IsOfOne : Signature → Type 0
-IsOfOne Pk = ⊤
-IsOfOne Rlk1 = ⊥
-IsOfOne Rlk2 = ⊥
-IsOfOne (Rot g) = ⊥
-IsOfOne (Dec c) = ⊤

@@ -3,6 +3,7 @@ ghost use Rattle.std.specs.Prelude.{◌≡◌, ◌+◌, ◌^◌, ◌<◌, ◌≤
 ghost use Rattle.mod_ring.specs.Fits.{Fits};
 ghost use Rattle.ring_spec.specs.Ring.{IsPoly, ring_sum};
 ghost use Rattle.bfv_spec.specs.Scheme.{decryption};
+ghost use Rattle.proto_names.specs.Names.{rows_of};
 ghost use Rattle.proto_names.specs.Instances.{after_share, missing};
 ghost use Rattle.proto_names.specs.declared.signature.Signature.TheVariants.{Dec};
 ghost use Rattle.instance_table.specs.Tables.{rows_sum};
@@ -14,14 +15,13 @@ ghost use Rattle.session_rules.specs.Deeds.{answered_by};
 ghost use Rattle.session_rules.specs.Facts.{Kept};
 ghost use Rattle.session_rules.specs.Grounds.{Grounded};
 ghost use Rattle.session_spec.specs.Stores.{held_sums, held_output, cipher_or, with_rows, with_answer, grown};
-ghost use Rattle.session_state.specs.Completions.{IsKey, IsAnswer, IsMade, last_counted};
+ghost use Rattle.session_state.specs.Completions.{IsKey, IsAnswer, HasSumsAlone, IsMade, last_counted};
 ghost use Rattle.session_state.specs.Issuings.{IsPlanned};
-ghost use Rattle.session_state.specs.Parts.{IsOfOne};
 ghost use Rattle.session_state.specs.Standings.{setting, rules_of, state, store, HasRoom, IsUnchanged};
 ghost use Rattle.session_state.specs.Wanted.{IsWanted};
 
 use crate::Standing;
-use crate::issuing::{Issuing, carry_out, plan};
+use crate::issuing::{Issuing, Source, carry_out, plan};
 use bfv_core::copied;
 use decrypt_protocol::dec_finish;
 use instance_table::{Instance, Share};
@@ -33,36 +33,38 @@ use session_rules::CircuitState;
 use std::alloc::{AllocError, Global};
 use std::sync::Arc;
 
-/// What a complete instance gives.
+/// What a complete instance gives by itself.
 #[derive(Drop)]
 pub(crate) enum Made {
     /// The public key.
     PublicKey { key: Arc<PublicKey> },
     /// The value of a circuit.
     Answer { circuit: u32, value: Plain },
+    /// Nothing but its sums: it is a round of the relinearisation key, or a rotation key.
+    Sums,
 }
 
-/// Sums of one row, with a share of one row added to them.
-#[tactic(auto, using(crate::proofs::Counting::one_sum))]
-fn with_row(alloc: Global, ring: &Ring, held: &Polys, rows: &Polys) -> Result<Polys, AllocError>
-    requires held { length held.now ≡ 1 }
-    requires one_row { length rows.now ≡ 1 }
+/// Sums with the rows of a share added to them.
+fn with_rows_of(alloc: Global, ring: &Ring, held: &Polys, rows: &Polys) -> Result<Polys, AllocError>
+    requires number { length rows.now ≡ length held.now }
     requires left { All (Fits ring.now) held.now }
     requires right { All (Fits ring.now) rows.now }
     ensures value { IfOk result (λ sums. sums
         ≡ rows_sum ring.now.params.q ring.now.params.n held.now rows.now) }
-    ensures one_row { IfOk result (λ sums. length sums ≡ 1) }
+    ensures number { IfOk result (λ sums. length sums ≡ length held.now) }
     ensures fits { IfOk result (λ sums. All (Fits ring.now) sums) }
 {
-    let mut row = copied(alloc, ring, held.at(0))?;
-    add_into(ring, &mut row, rows.at(0));
     let mut sums = Polys::new(alloc);
-    sums.push(row)?;
+    'rows: for place in 0..held.len() {
+        let mut row = copied(alloc, ring, held.at(place))?;
+        add_into(ring, &mut row, rows.at(place));
+        sums.push(row)?;
+    }
     Ok(sums)
 }
 
 impl Standing {
-    /// The one row of the sums of an instance once a share is added to it.
+    /// The sums of an instance once a share is added to them.
     fn sums_with(
         &self,
         alloc: Global,
@@ -72,16 +74,16 @@ impl Standing {
         requires fits { All (IsPoly self.now.params.q self.now.params.n) share.now.rows }
         requires wanted { IsWanted (rules_of self.now) (state self.now) share.now.id share.now.party
             (length share.now.rows) instance.now }
-        requires one_row { length share.now.rows ≡ 1 }
         ensures value { IfOk result (λ sums. sums
             ≡ held_sums (with_rows (setting self.now) share.now.id share.now.rows (store self.now))
             share.now.id) }
-        ensures one_row { IfOk result (λ sums. length sums ≡ 1) }
+        ensures number { IfOk result (λ sums. length sums
+            ≡ rows_of instance.now.signature (rules_of self.now).rows) }
         ensures fits { IfOk result (λ sums. All (IsPoly self.now.params.q self.now.params.n) sums) }
     {
         match self.table.sums(share.id) {
             None => unreachable!(),
-            Some(held) => with_row(alloc, &self.ring, held, &share.rows),
+            Some(held) => with_rows_of(alloc, &self.ring, held, &share.rows),
         }
     }
 
@@ -103,12 +105,13 @@ impl Standing {
         }
     }
 
-    /// What an instance gives, once these are its sums.
+    /// What an instance gives by itself, once these are its sums.
+    #[tactic(auto, unfolding(proto_names::specs::Names::rows_of))]
     fn made(&self, alloc: Global, instance: &Instance, sums: &Polys) -> Result<Made, AllocError>
         requires decrypts { (c : ℕ) → instance.now.signature ≡ Dec c
             → circuit (state self.now).circuits c ≡ Evaluated }
-        requires asked { IsOfOne instance.now.signature }
-        requires one_row { length sums.now ≡ 1 }
+        requires number { length sums.now
+            ≡ rows_of instance.now.signature (rules_of self.now).rows }
         requires fits { All (IsPoly self.now.params.q self.now.params.n) sums.now }
         ensures made { IfOk result (IsMade self.now.params (setting self.now) (store self.now)
             sums.now instance.now) }
@@ -124,7 +127,7 @@ impl Standing {
                 circuit,
                 value: self.opened(alloc, circuit, sums)?,
             }),
-            Signature::Rlk1 | Signature::Rlk2 | Signature::Rot(_) => unreachable!(),
+            Signature::Rlk1 | Signature::Rlk2 | Signature::Rot(_) => Ok(Made::Sums),
         }
     }
 
@@ -202,6 +205,26 @@ impl Standing {
         self.states = states;
     }
 
+    /// Counts the last share of a round of the relinearisation key, or of a rotation key.
+    fn take_sums(&mut self, share: &Share, instance: &Instance)
+        requires fits { All (IsPoly self.old.params.q self.old.params.n) share.now.rows }
+        requires kept { Kept (rules_of self.old) (state self.old) }
+        requires wanted { IsWanted (rules_of self.old) (state self.old) share.now.id share.now.party
+            (length share.now.rows) instance.now }
+        requires last { missing share.now.party instance.now ≡ 0 }
+        requires made { HasSumsAlone instance.now.signature }
+        ensures state { state self.new
+            ≡ last_counted (state self.old) instance.now share.now.id share.now.party }
+        ensures store { store self.new ≡ with_answer (setting self.old) share.now.id
+            instance.now.signature (with_rows (setting self.old) share.now.id share.now.rows
+            (store self.old)) }
+        ensures setting { setting self.new ≡ setting self.old }
+        ensures params { self.new.params ≡ self.old.params }
+        ensures spare { spare self.new.table ≡ spare self.old.table }
+    {
+        self.table.count(&self.ring, share);
+    }
+
     /// Counts the last share of an instance, and puts what it makes into its place.
     fn take_in(&mut self, share: &Share, instance: &Instance, made: Made, states: Vec<CircuitState>)
         requires fits { All (IsPoly self.old.params.q self.old.params.n) share.now.rows }
@@ -228,6 +251,7 @@ impl Standing {
             Made::Answer { circuit, value } => {
                 self.take_answer(share, instance, circuit, value, states)
             }
+            Made::Sums => self.take_sums(share, instance),
         }
     }
 
@@ -242,13 +266,13 @@ impl Standing {
         self.table.room(instances)
     }
 
-    /// Issues what was planned for its state.
+    /// Does what was planned for its state.
     pub(crate) fn issue_planned(&mut self, issuing: Issuing)
         requires kept { Kept (rules_of self.old) (state self.old) }
         requires room { length issuing.steps.items ≤ spare self.old.table }
         requires few { length (state self.old).instances + length issuing.steps.items ≤ 2 ^ 30 }
         requires planned { IsPlanned self.old.params (rules_of self.old) (state self.old)
-            (store self.old).outputs issuing.steps.items }
+            (store self.old) issuing.steps.items }
         ensures state { state self.new ≡ issue (rules_of self.old) (state self.old) }
         ensures store { store self.new
             ≡ grown (setting self.old) (state self.new).instances (store self.old) }
@@ -258,12 +282,14 @@ impl Standing {
         carry_out(&mut self.table, issuing);
     }
 
-    /// What is issued once the last share of an instance is counted, and the circuits have come so far.
-    fn planned(
-        &self,
+    /// What the rules of issue do once the last share of an instance is counted, to these sums, and the circuits
+    /// have come so far.
+    fn planned<'a>(
+        &'a self,
         alloc: Global,
         share: &Share,
         instance: &Instance,
+        sums: &'a Polys,
         states: &[CircuitState],
     ) -> Result<Issuing, AllocError>
         requires room { HasRoom self.now }
@@ -271,16 +297,27 @@ impl Standing {
         requires grounded { Grounded (rules_of self.now) (state self.now) }
         requires wanted { IsWanted (rules_of self.now) (state self.now) share.now.id share.now.party
             (length share.now.rows) instance.now }
+        requires sums { sums.now
+            ≡ held_sums (with_rows (setting self.now) share.now.id share.now.rows (store self.now))
+            share.now.id }
+        requires fits { All (IsPoly self.now.params.q self.now.params.n) sums.now }
         requires states { states.now ≡ answered_by instance.now.signature
             (state self.now).circuits }
         ensures planned { IfOk result (λ x. IsPlanned self.now.params (rules_of self.now)
             (last_counted (state self.now) instance.now share.now.id share.now.party)
-            (store self.now).outputs x.steps.items) }
+            (with_rows (setting self.now) share.now.id share.now.rows (store self.now))
+            x.steps.items) }
         ensures few { IfOk result (λ x. length x.steps.items ≤ most_moves (rules_of self.now)) }
     {
-        let instances = self
-            .table
-            .instances_with_share(alloc, share.id, share.party)?;
+        let live = self.table.live_with_share(alloc, share.id, share.party)?;
+        let source = Source {
+            table: &self.table,
+            outputs: &self.outputs,
+            circuit: 0,
+            made: None,
+            place: share.id as usize - 1,
+            counted: Some(sums),
+        };
         plan(
             alloc,
             &self.ring,
@@ -288,11 +325,10 @@ impl Standing {
             &self.rules,
             self.needed.as_slice(),
             &self.present,
-            instances,
+            live,
+            self.table.issued(),
             states,
-            &self.outputs,
-            0,
-            None,
+            &source,
         )
     }
 
@@ -325,7 +361,7 @@ impl Standing {
         let sums = self.sums_with(alloc, share, instance)?;
         let made = self.made(alloc, instance, &sums)?;
         let states = self.states_with(alloc, instance.signature)?;
-        let issuing = self.planned(alloc, share, instance, states.as_slice())?;
+        let issuing = self.planned(alloc, share, instance, &sums, states.as_slice())?;
         self.room(issuing.steps.len() as u32)?;
         self.take_in(share, instance, made, states);
         self.issue_planned(issuing);

@@ -15,7 +15,7 @@ ghost use Rattle.session_state.specs.Issuings.{IsPlanned};
 ghost use Rattle.session_state.specs.Standings.{setting, rules_of, state, store, finished, state_then, store_then, HasRoom, IsUnchanged};
 
 use crate::Standing;
-use crate::issuing::{Issuing, plan};
+use crate::issuing::{Issuing, Source, plan};
 use mod_ring::Ciphertext;
 use session_rules::{CircuitState, Reply, Verdict, judge_finish};
 use std::alloc::{AllocError, Global};
@@ -44,25 +44,34 @@ impl Standing {
         Ok(states)
     }
 
-    /// What is issued once a circuit has its output, and the circuits have come so far.
-    fn planned_once(
-        &self,
+    /// What the rules of issue do once a circuit has its output, and the circuits have come so far.
+    fn planned_once<'a>(
+        &'a self,
         alloc: Global,
         circuit: u32,
-        ct: &Ciphertext,
+        ct: &'a Ciphertext,
         states: &[CircuitState],
     ) -> Result<Issuing, AllocError>
         requires fits { CipherFits self.now.params.q self.now.params.n ct.now }
         requires there { circuit < length (state self.now).circuits }
         requires states { states.now ≡ slice_set (state self.now).circuits circuit Evaluated }
         requires room { HasRoom self.now }
+        requires kept { Kept (rules_of self.now) (state self.now) }
         requires grounded { Grounded (rules_of self.now) (state self.now) }
         ensures planned { IfOk result (λ x. IsPlanned self.now.params (rules_of self.now)
             (with_circuit (state self.now) circuit Evaluated)
-            (with_output circuit ct.now (store self.now)).outputs x.steps.items) }
+            (with_output circuit ct.now (store self.now)) x.steps.items) }
         ensures few { IfOk result (λ x. length x.steps.items ≤ most_moves (rules_of self.now)) }
     {
-        let instances = self.table.instances_copied(alloc)?;
+        let live = self.table.live_copied(alloc)?;
+        let source = Source {
+            table: &self.table,
+            outputs: &self.outputs,
+            circuit,
+            made: Some(ct),
+            place: 0,
+            counted: None,
+        };
         plan(
             alloc,
             &self.ring,
@@ -70,11 +79,10 @@ impl Standing {
             &self.rules,
             self.needed.as_slice(),
             &self.present,
-            instances,
+            live,
+            self.table.issued(),
             states,
-            &self.outputs,
-            circuit,
-            Some(ct),
+            &source,
         )
     }
 

@@ -29,7 +29,7 @@ impl Standing {
         judge_input(
             &self.rules,
             &self.present,
-            self.table.instances(),
+            self.table.live(),
             self.given.as_slice(),
             circuit,
             input,

@@ -13,7 +13,7 @@ ghost use Rattle.session_state.specs.Issuings.{IsPlanned};
 ghost use Rattle.session_state.specs.Standings.{setting, rules_of, state, store, joined, state_then, store_then, HasRoom, IsUnchanged};
 
 use crate::Standing;
-use crate::issuing::{Issuing, plan};
+use crate::issuing::{Issuing, Source, plan};
 use proto_names::PartySet;
 use session_rules::{Reply, Verdict, judge_join};
 use std::alloc::{AllocError, Global};
@@ -28,16 +28,17 @@ impl Standing {
         judge_join(&self.present, p)
     }
 
-    /// What is issued once these parties are present.
+    /// What the rules of issue do once these parties are present.
     fn planned_among(&self, alloc: Global, present: &PartySet) -> Result<Issuing, AllocError>
         requires room { HasRoom self.now }
+        requires kept { Kept (rules_of self.now) (state self.now) }
         requires grounded { Grounded (rules_of self.now) (state self.now) }
         ensures planned { IfOk result (λ x. IsPlanned self.now.params (rules_of self.now)
-            (record (state self.now) { present = present.now.bits }) (store self.now).outputs
+            (record (state self.now) { present = present.now.bits }) (store self.now)
             x.steps.items) }
         ensures few { IfOk result (λ x. length x.steps.items ≤ most_moves (rules_of self.now)) }
     {
-        let instances = self.table.instances_copied(alloc)?;
+        let live = self.table.live_copied(alloc)?;
         plan(
             alloc,
             &self.ring,
@@ -45,11 +46,10 @@ impl Standing {
             &self.rules,
             self.needed.as_slice(),
             present,
-            instances,
+            live,
+            self.table.issued(),
             self.states.as_slice(),
-            &self.outputs,
-            0,
-            None,
+            &Source::held(&self.table, &self.outputs),
         )
     }
 

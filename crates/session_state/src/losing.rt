@@ -1,4 +1,5 @@
-ghost use Rattle.std.specs.Prelude.{◌≡◌, false, ◌≤◌, length, IfOk, OnOk, OnErr};
+ghost use Rattle.std.specs.Prelude.{◌≡◌, false, ◌≤◌, length, map, filter, IfOk, OnOk, OnErr};
+ghost use Rattle.participants.specs.Live.{live_ones};
 ghost use Rattle.instance_table.specs.Spare.{spare};
 ghost use Rattle.session_rules.specs.declared.reply.Reply.TheVariants as reply;
 ghost use Rattle.session_rules.specs.declared.deed.Deed.TheVariants.{Loses};
@@ -10,12 +11,57 @@ ghost use Rattle.session_rules.specs.Grounds.{Grounded};
 ghost use Rattle.session_spec.specs.Stores.{nothing_brought};
 ghost use Rattle.session_state.specs.Handed.{is_list};
 ghost use Rattle.session_state.specs.Issuings.{IsPlanned};
+ghost use Rattle.session_state.specs.Losings.{lacks_second, first_lost, fails, stays, without};
 ghost use Rattle.session_state.specs.Standings.{setting, rules_of, state, store, lost, state_then, store_then, HasRoom, IsUnchanged};
 
 use crate::Standing;
-use crate::issuing::{Issuing, plan};
+use crate::issuing::{Issuing, Source, plan};
+use instance_table::Instance;
+use proto_names::{Signature, lacks};
 use session_rules::{Reply, Verdict, judge_lose};
 use std::alloc::{AllocError, Global};
+
+/// Whether it is a second round that lacks the share of party p.
+fn lacks_second(p: u32, instance: &Instance) -> bool
+    ensures { result ≡ lacks_second p instance.now }
+{
+    instance.signature.is(Signature::Rlk2) && lacks(p, instance)
+}
+
+/// The number of the first round whose second round lacks the share of party p, if there is one.
+#[tactic(auto, unfolding(crate::specs::Losings::first_lost))]
+fn first_lost(p: u32, instances: &[Instance]) -> Option<u32>
+    ensures { result ≡ first_lost p instances.now }
+{
+    instances
+        .iter()
+        .find(|instance| lacks_second(p, instance))
+        .map(|instance| instance.round1)
+}
+
+/// Whether an instance is void once party p is lost, where the second round that lacks its share, if there is one, is
+/// behind `first`.
+fn fails(p: u32, first: Option<u32>, instance: &Instance) -> bool
+    ensures { result ≡ fails p first instance.now }
+{
+    lacks(p, instance) || first == Some(instance.id)
+}
+
+/// A copy of those that stay.
+fn staying(
+    alloc: Global,
+    p: u32,
+    first: Option<u32>,
+    instances: &[Instance],
+) -> Result<Vec<Instance>, AllocError>
+    ensures { IfOk result (λ copies. copies.items ≡ filter (stays p first) instances.now) }
+{
+    instances
+        .iter()
+        .filter(|instance| !fails(p, first, instance))
+        .copied()
+        .collect(alloc)
+}
 
 impl Standing {
     /// What the rules say to the loss of party p.
@@ -27,18 +73,39 @@ impl Standing {
         judge_lose(&self.present, p)
     }
 
-    /// What is issued once party p is lost, and the instances that lack its share are given up.
-    fn planned_without(&self, alloc: Global, p: u32) -> Result<Issuing, AllocError>
-        requires first { 1 ≤ p }
+    /// A copy of the instances that still aren't void once party p is lost.
+    #[tactic(auto, using(crate::proofs::Live::live_left))]
+    fn live_without(
+        &self,
+        alloc: Global,
+        p: u32,
+        first: Option<u32>,
+    ) -> Result<Vec<Instance>, AllocError>
+        ensures { IfOk result (λ copies. copies.items
+            ≡ live_ones (map (without p first) (state self.now).instances)) }
+    {
+        staying(alloc, p, first, self.table.live())
+    }
+
+    /// What the rules of issue do once party p is lost, and the instances that lack its share are given up, with the
+    /// first round of a second one.
+    fn planned_without(
+        &self,
+        alloc: Global,
+        p: u32,
+        first: Option<u32>,
+    ) -> Result<Issuing, AllocError>
+        requires party { 1 ≤ p }
         requires last { p ≤ 32 }
         requires room { HasRoom self.now }
-        requires grounded { Grounded (rules_of self.now) (state self.now) }
+        requires kept { Kept (rules_of self.now) (state self.now) }
+        requires first { first ≡ first_lost p (state self.now).instances }
         ensures planned { IfOk result (λ x. IsPlanned self.now.params (rules_of self.now)
-            (changed (Loses p) (state self.now)) (store self.now).outputs x.steps.items) }
+            (changed (Loses p) (state self.now)) (store self.now) x.steps.items) }
         ensures few { IfOk result (λ x. length x.steps.items ≤ most_moves (rules_of self.now)) }
     {
         let present = self.present.without(p);
-        let instances = self.table.instances_without(alloc, p)?;
+        let live = self.live_without(alloc, p, first)?;
         plan(
             alloc,
             &self.ring,
@@ -46,21 +113,21 @@ impl Standing {
             &self.rules,
             self.needed.as_slice(),
             &present,
-            instances,
+            live,
+            self.table.issued(),
             self.states.as_slice(),
-            &self.outputs,
-            0,
-            None,
+            &Source::held(&self.table, &self.outputs),
         )
     }
 
-    /// Party p is absent from now on, and each instance that lacks its share is given up.
-    fn depart(&mut self, p: u32)
-        requires first { 1 ≤ p }
+    /// Party p is absent from now on, and each instance that lacks its share is given up, with the first round of a
+    /// second one.
+    fn depart(&mut self, p: u32, first: Option<u32>)
+        requires party { 1 ≤ p }
         requires last { p ≤ 32 }
         requires kept { Kept (rules_of self.old) (state self.old) }
         requires kept_then { Kept (rules_of self.old) (changed (Loses p) (state self.old)) }
-        requires grounded { Grounded (rules_of self.old) (state self.old) }
+        requires first { first ≡ first_lost p (state self.old).instances }
         ensures state { state self.new ≡ changed (Loses p) (state self.old) }
         ensures store { store self.new ≡ store self.old }
         ensures setting { setting self.new ≡ setting self.old }
@@ -69,10 +136,13 @@ impl Standing {
     {
         self.present = self.present.without(p);
         self.table.lose(p);
+        if let Some(id) = first {
+            self.table.void(id, p);
+        }
     }
 
-    /// Party p is absent from now on, and each instance that lacks its share is given up: Left, or Already where it
-    /// was absent. Only Left takes memory, for the instances that are issued.
+    /// Party p is absent from now on, and each instance that lacks its share is given up, with the first round of a
+    /// second one: Left, or Already where it was absent. Only Left takes memory, for the instances that are issued.
     pub fn lose(&mut self, alloc: Global, p: u32) -> Result<Reply, AllocError>
         requires first { 1 ≤ p }
         requires last { p ≤ 32 }
@@ -93,9 +163,10 @@ impl Standing {
         if verdict.deed.is_nothing() {
             return Ok(verdict.reply);
         }
-        let issuing = self.planned_without(alloc, p)?;
+        let first = first_lost(p, self.table.live());
+        let issuing = self.planned_without(alloc, p, first)?;
         self.room(issuing.steps.len() as u32)?;
-        self.depart(p);
+        self.depart(p, first);
         self.issue_planned(issuing);
         Ok(verdict.reply)
     }

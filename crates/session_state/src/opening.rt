@@ -3,7 +3,7 @@ ghost use Rattle.param_set.specs.Numbers.{numbers_of};
 ghost use Rattle.proto_names.specs.Roles.{first_groups};
 ghost use Rattle.session_rules.specs.Fixing.{plan_of as plan_by};
 ghost use Rattle.session_rules.specs.States.{opening, opening_of, none_given};
-ghost use Rattle.session_spec.specs.Settings.{rules as rules_for, nodes_of, Keeps, NeedsNoSwitch};
+ghost use Rattle.session_spec.specs.Settings.{rules as rules_for, nodes_of, Keeps};
 ghost use Rattle.session_spec.specs.Stores.{empty, no_inputs};
 ghost use Rattle.session_state.specs.Parts.{setting_by, ciphers_in};
 ghost use Rattle.session_state.specs.Standings.{setting, state, store};
@@ -79,7 +79,8 @@ fn no_inputs_of(
 }
 
 impl Standing {
-    /// At first nobody is present, nothing is issued or given, and a circuit is idle, or refused by the ledger.
+    /// At first nobody is present, nothing is issued or given, and a circuit is idle, or refused by the ledger. There
+    /// are at most 64 circuits, with at most 16 different rotations.
     pub fn new(
         alloc: Global,
         ring: Arc<Ring>,
@@ -87,8 +88,9 @@ impl Standing {
         circuits: Circuits,
     ) -> Result<Standing, AllocError>
         requires keep { All (Keeps ring.value.params) circuits }
-        requires free { NeedsNoSwitch (setting_by ring.value.params public circuits) }
         requires few { length circuits ≤ 64 }
+        requires turns { length (rules_for (setting_by ring.value.params public circuits)).turns
+            ≤ 16 }
         ensures params { IfOk result (λ st. st.params ≡ ring.value.params) }
         ensures setting { IfOk result (λ st. setting st
             ≡ setting_by ring.value.params public circuits) }

@@ -71,7 +71,7 @@ impl Standing {
         }
         is_ready(
             &self.rules,
-            self.table.instances(),
+            self.table.live(),
             self.given.as_slice(),
             self.states.as_slice(),
             c,

@@ -2,11 +2,11 @@ ghost use Rattle.std.specs.Prelude.{◌≡◌, ℕ, ◌≤◌, length, All};
 ghost use Rattle.proto_names.specs.Roles.{first_groups};
 ghost use Rattle.session_rules.specs.States.{seen, plan};
 ghost use Rattle.session_rules.specs.Issues.{keys};
-ghost use Rattle.session_spec.specs.Settings.{rules as rules_for, IsSetting, NeedsNoSwitch};
+ghost use Rattle.session_spec.specs.Settings.{rules as rules_for, IsSetting};
 ghost use Rattle.session_spec.specs.Stores.{held_key};
 ghost use Rattle.session_spec.specs.Honesty.{Matches};
 ghost use Rattle.session_state.specs.Shared.{shared_if};
-ghost use Rattle.session_state.specs.Parts.{setting_by, store_by, Holds, IsPk, IsOfFirst};
+ghost use Rattle.session_state.specs.Parts.{setting_by, store_by, Holds, IsOfFirst};
 
 use crate::{Circuits, Places};
 use instance_table::Table;
@@ -45,12 +45,10 @@ pub struct Standing {
     pub ghost rules_are: { rules ≡ rules_for (setting_by params public circuits) },
     pub ghost needed_are: { needed.items ≡ keys rules },
     pub ghost setting_is: { IsSetting params (setting_by params public circuits) },
-    pub ghost free: { NeedsNoSwitch (setting_by params public circuits) },
     pub ghost few: { length circuits ≤ 64 },
     pub ghost lengths: { (length rules.plans ≡ length circuits) × (length given.items ≡ length circuits) × (length states.items ≡ length circuits) },
     pub ghost few_inputs: { (c : ℕ) → length (plan rules c).owners ≤ 256 },
-    pub ghost few_needed: { length needed.items ≤ 1 },
-    pub ghost only_keys: { All IsPk needed.items },
+    pub ghost few_turns: { length rules.turns ≤ 16 },
     pub ghost matches: { Matches (setting_by params public circuits) (seen present.bits table.instances.items given.items states.items) (store_by table.briefs.items table.sums.items inputs.items outputs answers) },
     pub ghost holds: { Holds params (seen present.bits table.instances.items given.items states.items) (store_by table.briefs.items table.sums.items inputs.items outputs answers) },
     pub ghost keyed: { shared_if key ≡ held_key (setting_by params public circuits) (store_by table.briefs.items table.sums.items inputs.items outputs answers) table.instances.items },

@@ -37,7 +37,7 @@ impl Standing {
     {
         judge_take(
             &self.rules,
-            self.table.instances(),
+            self.table.live(),
             self.given.as_slice(),
             self.states.as_slice(),
             caller,

@@ -2,7 +2,7 @@
 use Rattle.std.proofs.Common.{◌∙◌, sym, refl, length}
 use Rattle.session_spec.specs.Stores.{with_rows}
 use Rattle.session_state.specs.Standings.{setting, rules_of, state, store}
-use Rattle.session_state.proofs.Counting.{gadget, awaited, rows_fit, more_matches, more_holds, more_keyed}
+use Rattle.session_state.proofs.Counting.{awaited, wanted_rows, more_matches, more_holds, more_keyed}
 use Rattle.session_state.proofs.standing.Standing.count.Goals as goal
 
 pub count-requires-clause-awaited : goal.count-requires-clause-awaited
@@ -11,9 +11,8 @@ count-requires-clause-awaited c =
 
 pub count-requires-clause-number : goal.count-requires-clause-number
 count-requires-clause-number c =
-    let st = c.args.self.now in let t = st.table in
-    let shape = c.requires.wanted.shape in
-    rows_fit st.params t.instances.items t.sums.items c.args.share.now.id _ c.args.instance.now (rw (← st.table_is) t.rows) c.requires.wanted.issued (rw (← gadget st) shape)
+    let share = c.args.share.now in
+    wanted_rows c.args.self.now share.id share.party (length share.rows) c.args.instance.now c.requires.wanted
 
 pub invariant_of-self : goal.invariant_of-self
 invariant_of-self c =
@@ -32,12 +31,10 @@ invariant_of-self c =
       rules_are = st.rules_are;
       needed_are = st.needed_are;
       setting_is = st.setting_is;
-      free = st.free;
       few = st.few;
       lengths = st.lengths;
       few_inputs = st.few_inputs;
-      few_needed = st.few_needed;
-      only_keys = st.only_keys;
+      few_turns = st.few_turns;
       matches = rw (e.instances, e.briefs, e.sums) (more_matches st.params f s id p (length rows) i k want more (setting st) h q n rows st.matches);
       holds = rw (e.instances, e.briefs, e.sums) (more_holds st.params f s id p (length rows) i k want more h q n rows st.holds);
       keyed = rw (e.instances, e.briefs, e.sums) (st.keyed ∙ sym (more_keyed st.params f s id p (length rows) i k want more (setting st) h q n rows));

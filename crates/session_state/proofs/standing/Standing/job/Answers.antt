@@ -1,16 +1,15 @@
-use Rattle.std.proofs.Common.{◌≡◌, ◌∙◌, sym, ap, subst, refl, ◌<◌, List, [], length, map, get_or, Option, None, true, arith}
+use Rattle.std.proofs.Common.{◌≡◌, ◌∙◌, sym, ap, subst, refl, ◌<◌, List, [], length, map, get_or, Option, None, arith}
 use Rattle.std.proofs.lemmas.List.{length-map}
 use Rattle.ring_spec.specs.Pairs.{Cipher, CipherFits}
 use Rattle.std.specs.Prelude.{All}
 use Rattle.circuit_form.specs.declared.node.Node.{Node}
 use Rattle.circuit_form.specs.Circuits.{first_fault, owners}
-use Rattle.cipher_spec.specs.Ciphers.{is_switch_free}
 use Rattle.session_spec.specs.Settings.{Offer, nodes_at}
 use Rattle.session_spec.specs.Stores.{cipher_or}
 use Rattle.session_state.specs.Parts.{ciphers_in}
 use Rattle.session_state.specs.Standings.{setting, state, store}
 use Rattle.session_state.proofs.Rows.{inputs_number, row_is}
-use Rattle.session_state.proofs.Takings.{has_inputs, all_there, all_fit, circuit_keeps, circuit_is_free}
+use Rattle.session_state.proofs.Takings.{has_inputs, all_there, all_fit, circuit_keeps}
 use Rattle.session_state.proofs.standing.Standing.job.Goals as goal
 
 pub index-requires : goal.index-requires
@@ -41,7 +40,6 @@ returns c =
       circuit = record { number = refl; circuit = nodes; inputs = inputs };
       ready = record {
         circuit = subst (λ (z : List Node). first_fault st.params.n st.params.t st.params.parties z ≡ None) (sym nodes) keeps.rules;
-        switch_free = subst (λ (z : List Node). is_switch_free z ≡ true) (sym nodes) (circuit_is_free w number st.free c.requires.there);
         count = ap length inputs ∙ length-map (get_or h.inputs number []) cipher_or ∙ has.number ∙ sym (ap (λ (z : List Node). length (owners z)) nodes);
         inputs = subst (λ (z : List Cipher). All (CipherFits st.params.q st.params.n) z) (sym inputs) (all_fit st.params w h number has);
       };

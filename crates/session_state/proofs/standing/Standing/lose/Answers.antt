@@ -8,8 +8,10 @@ use Rattle.session_rules.specs.Deeds.{changed}
 use Rattle.session_rules.specs.Facts.{Kept}
 use Rattle.session_spec.specs.Settings.{Setting, rules}
 use Rattle.session_spec.specs.Stores.{nothing_brought, with_deed}
+use Rattle.session_state.specs.Losings.{first_lost}
 use Rattle.session_state.specs.Standings.{setting, rules_of, state, lost}
 use Rattle.session_state.specs.declared.standing.Standing.{Standing}
+use Rattle.session_state.proofs.Live.{first_live}
 use Rattle.session_state.proofs.Leading.{fair_lose, kept_mid}
 use Rattle.session_state.proofs.Onward.{refused, its_deed, kept_changed, Leads, leads_state, leads_store}
 use Rattle.session_state.proofs.standing.Standing.lose.Goals as goal
@@ -23,6 +25,16 @@ pub returns-then-is_nothing-clause-store : goal.returns-then-is_nothing-clause-s
 returns-then-is_nothing-clause-store c =
     let st = c.args.self.now in let e = c.verdict_on_loss-verdict.ensures in
     (refused st c.verdict_on_loss-verdict.result (lost st c.args.p) nothing_brought e.said (sym c.is_nothing.ensures ∙ c.if-is_nothing.true)).1
+
+-- the first round that goes is found among the live instances
+pub planned_without-requires-clause-first : goal.planned_without-requires-clause-first
+planned_without-requires-clause-first c =
+    c.first_lost-first.ensures ∙ ap (first_lost c.args.p) c.live.ensures ∙ first_live c.args.p c.args.self.now.table.instances.items
+
+pub depart-requires-clause-first : goal.depart-requires-clause-first
+depart-requires-clause-first c =
+    c.first_lost-first.ensures ∙ ap (first_lost c.args.p) c.live.ensures ∙ first_live c.args.p c.args.self.now.table.instances.items
+    ∙ ap (λ (s : State). first_lost c.args.p s.instances) (sym c.room.ensures.state)
 
 -- the state that the loss leads to is kept
 then_kept : (st room : Standing) (p : ℕ) → setting room ≡ setting st → state room ≡ state st → Kept (rules_of st) (changed (Loses p) (state st)) → Kept (rules_of room) (changed (Loses p) (state room))

@@ -6,11 +6,10 @@ use Rattle.mod_ring.specs.declared.ring.Ring.{Ring}
 use Rattle.param_set.specs.declared.params.Params.{Params}
 use Rattle.session_rules.specs.declared.fixed.Fixed.{Fixed}
 use Rattle.session_rules.specs.States.{none_given, opening_of, plan, opening}
-use Rattle.session_rules.specs.Issues.{keys}
 use Rattle.session_spec.specs.Settings.{rules, Keeps}
 use Rattle.session_state.specs.Parts.{setting_by, polys_in}
 use Rattle.session_state.proofs.Rows.{rules_number}
-use Rattle.session_state.proofs.Openings.{AreFew, few_keys, opens_matches, opens_holds, few_inputs, rules_from, state_opens, store_opens, opening_keyed}
+use Rattle.session_state.proofs.Openings.{opens_matches, opens_holds, few_inputs, rules_from, state_opens, store_opens, opening_keyed}
 use Rattle.session_state.proofs.standing.Standing.new.Goals as goal
 
 pub invariant_of-result-clause-ring_is : goal.invariant_of-result-clause-ring_is
@@ -48,17 +47,13 @@ invariant_of-result-clause-few_inputs c =
     c.in_ok-rules.ensures ∙ rules_from c.params.result.now c.args.public c.args.circuits c.in_ok-plans.plans c.in_ok-plans.ensures in
     λ n. subst (λ (z : Fixed). length (plan z n).owners ≤ 256) (sym f) (few_inputs c.params.result.now (setting_by c.params.result.now c.args.public c.args.circuits) n keep)
 
-pub invariant_of-result-clause-few_needed : goal.invariant_of-result-clause-few_needed
-invariant_of-result-clause-few_needed c =
+pub invariant_of-result-clause-few_turns : goal.invariant_of-result-clause-few_turns
+invariant_of-result-clause-few_turns c =
+    let params : c.params.result.now ≡ c.args.ring.value.params = c.params.ensures ∙ ap (λ (z : Ring). z.params) c.deref.ensures in
     let f : c.in_ok-rules.rules ≡ rules (setting_by c.params.result.now c.args.public c.args.circuits) =
     c.in_ok-rules.ensures ∙ rules_from c.params.result.now c.args.public c.args.circuits c.in_ok-plans.plans c.in_ok-plans.ensures in
-    (subst AreFew (sym (c.in_ok-keys.ensures.keys ∙ ap keys f)) (few_keys c.params.result.now c.args.public c.args.circuits c.requires.free)).few
-
-pub invariant_of-result-clause-only_keys : goal.invariant_of-result-clause-only_keys
-invariant_of-result-clause-only_keys c =
-    let f : c.in_ok-rules.rules ≡ rules (setting_by c.params.result.now c.args.public c.args.circuits) =
-    c.in_ok-rules.ensures ∙ rules_from c.params.result.now c.args.public c.args.circuits c.in_ok-plans.plans c.in_ok-plans.ensures in
-    (subst AreFew (sym (c.in_ok-keys.ensures.keys ∙ ap keys f)) (few_keys c.params.result.now c.args.public c.args.circuits c.requires.free)).only
+    subst (λ (z : Fixed). length z.turns ≤ 16) (sym f)
+    (subst (λ (z : Params). length (rules (setting_by z c.args.public c.args.circuits)).turns ≤ 16) (sym params) c.requires.turns)
 
 pub invariant_of-result-clause-matches : goal.invariant_of-result-clause-matches
 invariant_of-result-clause-matches c =

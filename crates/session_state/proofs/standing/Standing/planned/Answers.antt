@@ -1,25 +1,32 @@
 -- The instances with the share, and the circuits as far as they have come then.
-use Rattle.std.proofs.Common.{◌≡◌, ◌∙◌, sym, ap, refl, true, List, length, arith}
+use Rattle.std.proofs.Common.{◌≡◌, ◌∙◌, sym, ap, refl, ℕ, true, ◌-◌, ◌<◌, List, [], set, get_or, length, Some, arith}
+use Rattle.std.specs.Prelude.{All}
+use Rattle.std.proofs.lemmas.List.{get_or-set_same}
+use Rattle.std.proofs.lemmas.List.Elements.{All-set}
 use Rattle.mod_ring.specs.declared.ring.Ring.{Ring}
 use Rattle.session_rules.specs.declared.state.CircuitState.{CircuitState}
 use Rattle.session_rules.specs.declared.state.CircuitState.TheVariants.{Evaluated}
 use Rattle.session_rules.specs.States.{circuit}
-use Rattle.proto_names.specs.Instances.{after_share}
+use Rattle.proto_names.specs.Instances.{instance, after_share}
+use Rattle.proto_names.specs.declared.instance.Instance.{Instance}
 use Rattle.session_rules.specs.Deeds.{answered_by}
-use Rattle.session_rules.specs.Issues.{most_moves}
 use Rattle.session_rules.specs.Facts.{is_settled}
-use Rattle.session_rules.proofs.PartySets.{has_party}
-use Rattle.session_state.specs.Standings.{rules_of, state}
-use Rattle.session_state.proofs.Planned.{no_first_after_share, plan_for, ok_then}
+use Rattle.session_spec.specs.Stores.{held_sums, with_rows}
+use Rattle.instance_table.specs.Tables.{rows_sum, after_rows}
+use Rattle.ring_spec.specs.Ring.{IsPoly}
+use Rattle.session_state.specs.Standings.{setting, rules_of, state, store}
+use Rattle.session_state.specs.declared.standing.Standing.{Standing}
+use Rattle.session_state.proofs.Firsts.{firsts_counted}
+use Rattle.session_state.proofs.Counting.{awaited, stands_at}
+use Rattle.session_state.proofs.Planned.{plan_for, plan_from, ok_then}
 use Rattle.session_state.proofs.LastShares.{evaluated_there}
-use Rattle.session_state.proofs.Asked.{only_pk, same_number, answered_length, evaluated_before}
+use Rattle.session_state.proofs.Asked.{needed_few, same_number, answered_length, evaluated_before}
 use Rattle.session_state.proofs.standing.Standing.planned.Goals as goal
 
-pub instances_with_share-requires-clause-first : goal.instances_with_share-requires-clause-first
-instances_with_share-requires-clause-first c = (has_party c.args.instance.now.set.bits c.args.share.now.party c.requires.wanted.member).0
-
-pub instances_with_share-requires-clause-last : goal.instances_with_share-requires-clause-last
-instances_with_share-requires-clause-last c = (has_party c.args.instance.now.set.bits c.args.share.now.party c.requires.wanted.member).1
+pub live_with_share-requires : goal.live_with_share-requires
+live_with_share-requires c =
+    let st = c.args.self.now in
+    awaited _ _ c.args.share.now.id c.args.share.now.party _ c.args.instance.now c.requires.kept c.requires.wanted
 
 pub plan-requires-clause-plans : goal.plan-requires-clause-plans
 plan-requires-clause-plans c =
@@ -33,19 +40,44 @@ plan-requires-clause-few c =
     let few = st.few in
     omega arith
 
-pub plan-requires-clause-room : goal.plan-requires-clause-room
-plan-requires-clause-room c =
-    let st = c.args.self.now in
-    let many : length c.in_ok-instances.instances.items ≡ length st.table.instances.items =
-    ap length c.in_ok-instances.ensures ∙ same_number c.args.share.now.id c.args.share.now.party st.table.instances.items in
-    let moves : most_moves st.rules ≡ most_moves (rules_of st) = ap most_moves st.rules_are in
-    let room = c.requires.room in
-    omega arith
+pub plan-requires-clause-few_keys : goal.plan-requires-clause-few_keys
+plan-requires-clause-few_keys c = rw c.as_slice.ensures.value (needed_few c.args.self.now)
 
-pub plan-requires-clause-no_first_round : goal.plan-requires-clause-no_first_round
-plan-requires-clause-no_first_round c =
+-- all instances with the share, of which there are as many
+with_share : (st : Standing) (id p : ℕ) → length st.table.instances.items ≡ length (after_share id p st.table.instances.items)
+with_share st id p = sym (same_number id p st.table.instances.items)
+
+pub plan-requires-clause-instances : goal.plan-requires-clause-instances
+plan-requires-clause-instances c =
+    let st = c.args.self.now in let share = c.args.share.now in
+    record {
+      all = after_share share.id share.party st.table.instances.items;
+      alive = c.in_ok-live.ensures;
+      number = c.issued.ensures ∙ with_share st share.id share.party;
+      firsts = firsts_counted (rules_of st) (state st) share.id share.party (length share.rows) c.args.instance.now c.requires.kept c.requires.wanted;
+    }
+
+-- the sums of all instances once the share is added to those of its own
+sums_now : (st : Standing) (id : ℕ) (i : Instance) (rows sums : List (List ℕ)) → instance st.table.instances.items id ≡ Some i
+    → sums ≡ held_sums (with_rows (setting st) id rows (store st)) id → set st.table.sums.items (id - 1) sums ≡ (with_rows (setting st) id rows (store st)).sums
+unfolding with_rows after_rows
+sums_now st id i rows sums found e =
+    let xs = st.table.sums.items in
+    let w = (setting st).numbers in
+    let within = (stands_at st.table.instances.items id i found).within in
+    let many : length xs ≡ length st.table.instances.items = st.matches.sums in
+    let l : id - 1 < length xs = omega arith in
+    ap (set xs (id - 1)) (e ∙ get_or-set_same xs (id - 1) (rows_sum w.q w.n (get_or xs (id - 1) []) rows) [] l)
+
+pub overflow_sub-source : goal.overflow_sub-source
+overflow_sub-source c =
+    (stands_at c.args.self.now.table.instances.items c.args.share.now.id c.args.instance.now c.requires.wanted.issued).first
+
+pub plan-requires-clause-sums : goal.plan-requires-clause-sums
+plan-requires-clause-sums c =
     let st = c.args.self.now in
-    rw c.in_ok-instances.ensures (no_first_after_share (rules_of st) (state st).instances c.args.share.now.id c.args.share.now.party (only_pk st) c.requires.grounded.asked)
+    let ring : c.deref.result.now.params ≡ st.params = ap (λ (r : Ring). r.params) c.deref.ensures ∙ st.ring_is in
+    rw ring (All-set (All (IsPoly st.params.q st.params.n)) st.table.sums.items (c.args.share.now.id - 1) c.args.sums.now c.requires.fits (rw (← st.table_is) st.table.fits))
 
 pub plan-requires-clause-outputs : goal.plan-requires-clause-outputs
 plan-requires-clause-outputs c place e =
@@ -57,8 +89,14 @@ plan-requires-clause-outputs c place e =
     rw ring (st.holds.outputs place (evaluated_there st.states.items place before) settled)
 
 pub returns-clause-planned : goal.returns-clause-planned
+unfolding with_rows
 returns-clause-planned c =
     let st = c.args.self.now in
     let ring : c.deref.result.now.params ≡ st.params = ap (λ (r : Ring). r.params) c.deref.ensures ∙ st.ring_is in
-    ok_then c.plan.result _ _ (λ x h. plan_for c.deref.result.now.params st.params st.rules (rules_of st) st.present.bits c.in_ok-instances.instances.items (after_share c.args.share.now.id c.args.share.now.party st.table.instances.items)
-    st.given.items c.args.states.now (answered_by c.args.instance.now.signature st.states.items) st.outputs x.steps.items ring st.rules_are c.in_ok-instances.ensures c.requires.states h) c.plan.ensures.planned
+    let f = rules_of st in
+    let h = with_rows (setting st) c.args.share.now.id c.args.share.now.rows (store st) in
+    let is = after_share c.args.share.now.id c.args.share.now.party st.table.instances.items in
+    ok_then c.plan.result _ _ (λ x r. plan_from st.params f _ _ h x.steps.items (sums_now st c.args.share.now.id c.args.instance.now c.args.share.now.rows c.args.sums.now c.requires.wanted.issued c.requires.sums) refl
+    (plan_for c.deref.result.now.params st.params st.rules f st.present.bits is is
+    st.given.items c.args.states.now (answered_by c.args.instance.now.signature st.states.items) _ x.steps.items ring st.rules_are refl c.requires.states r))
+    (c.plan.ensures.planned is c.in_ok-live.ensures (c.issued.ensures ∙ with_share st c.args.share.now.id c.args.share.now.party))

@@ -1,19 +1,32 @@
 -- The instances and the circuits are as they stand.
-use Rattle.std.proofs.Common.{◌≡◌, ◌∙◌, ap}
+use Rattle.std.proofs.Common.{◌≡◌, ◌∙◌, ap, refl}
 use Rattle.mod_ring.specs.declared.ring.Ring.{Ring}
-use Rattle.session_state.specs.Standings.{rules_of}
-use Rattle.session_state.proofs.Planned.{no_first_round, plan_for, ok_then}
-use Rattle.session_state.proofs.Asked.{only_pk}
+use Rattle.session_state.specs.Standings.{rules_of, store}
+use Rattle.session_state.proofs.Asked.{needed_few}
+use Rattle.session_state.proofs.Firsts.{firsts_stand}
+use Rattle.session_state.proofs.Planned.{plan_for, plan_from, ok_then}
 use Rattle.session_state.proofs.standing.Standing.planned_among.Goals as goal
 
-pub plan-requires-clause-no_first_round : goal.plan-requires-clause-no_first_round
-plan-requires-clause-no_first_round c =
-    let st = c.args.self.now in
-    rw c.in_ok-instances.ensures (no_first_round (rules_of st) st.table.instances.items (only_pk st) c.requires.grounded.asked)
+pub plan-requires-clause-few_keys : goal.plan-requires-clause-few_keys
+plan-requires-clause-few_keys c = rw c.as_slice.ensures.value (needed_few c.args.self.now)
+
+pub plan-requires-clause-instances : goal.plan-requires-clause-instances
+plan-requires-clause-instances c =
+    let is = c.args.self.now.table.instances.items in
+    record {
+      all = is;
+      alive = c.in_ok-live.ensures;
+      number = c.issued.ensures;
+      firsts = rw c.held.ensures (firsts_stand is c.requires.kept.numbered);
+    }
 
 pub returns-clause-planned : goal.returns-clause-planned
 returns-clause-planned c =
     let st = c.args.self.now in
+    let is = st.table.instances.items in
     let ring : c.deref.result.now.params ≡ st.params = ap (λ (r : Ring). r.params) c.deref.ensures ∙ st.ring_is in
-    ok_then c.plan.result _ _ (λ x h. plan_for c.deref.result.now.params st.params st.rules (rules_of st) c.args.present.now.bits c.in_ok-instances.instances.items st.table.instances.items
-    st.given.items c.as_slice-2.result.now st.states.items st.outputs x.steps.items ring st.rules_are c.in_ok-instances.ensures c.as_slice-2.ensures.value h) c.plan.ensures.planned
+    let f = rules_of st in
+    ok_then c.plan.result _ _ (λ x h. plan_from st.params f _ _ (store st) x.steps.items (rw c.held.ensures refl) (rw c.held.ensures refl)
+    (plan_for c.deref.result.now.params st.params st.rules f c.args.present.now.bits is is
+    st.given.items c.as_slice-2.result.now st.states.items _ x.steps.items ring st.rules_are refl c.as_slice-2.ensures.value h))
+    (c.plan.ensures.planned is c.in_ok-live.ensures c.issued.ensures)

@@ -1,15 +1,18 @@
--- The instance is opened, so it has sums: one row, as its shares do.
-use Rattle.std.proofs.Common.{◌≡◌, ◌∙◌, sym, ap, subst, arith, [], length, Some}
+-- The instance is opened, so it has sums: as many rows as its shares do.
+use Rattle.std.proofs.Common.{◌≡◌, ◌∙◌, sym, ap, subst, ℕ, List, arith, [], length, Some}
 use Rattle.std.specs.Prelude.{IsSome, IfOk}
 use Rattle.param_set.specs.declared.params.Params.{Params}
 use Rattle.mod_ring.specs.declared.ring.Ring.{Ring}
-use Rattle.param_set.specs.Moduli.{digit_rows}
 use Rattle.proto_names.specs.Names.{rows_of}
+use Rattle.proto_names.specs.declared.instance.Instance.{Instance}
 use Rattle.instance_table.specs.Tables.{told, rows_sum}
 use Rattle.instance_table.proofs.Places.{told_entry}
 use Rattle.session_spec.specs.Stores.{with_rows}
-use Rattle.session_state.specs.Standings.{state}
-use Rattle.session_state.proofs.Counting.{stands_so, rows_fit, sums_within, sums_then, gadget}
+use Rattle.session_state.specs.Standings.{state, rules_of}
+use Rattle.session_state.specs.Wanted.{IsWanted}
+use Rattle.session_state.specs.declared.standing.Standing.{Standing}
+use Rattle.session_state.proofs.Counting.{stands_so, wanted_rows, sums_within, sums_then}
+use Rattle.session_state.proofs.Planned.{ok_then}
 use Rattle.session_state.proofs.standing.Standing.sums_with.Goals as goal
 
 pub unreachable-requires : goal.unreachable-requires
@@ -19,14 +22,15 @@ unreachable-requires c =
     let none = c.in-None.is in
     grind arith
 
-pub with_row-requires-clause-held : goal.with_row-requires-clause-held
-with_row-requires-clause-held c =
-    let st = c.args.self.now in let t = st.table in let id = c.args.share.now.id in
-    let want = c.requires.wanted in
-    let shape : rows_of c.args.instance.now.signature (digit_rows st.params.q st.params.digit_bits) ≡ length c.args.share.now.rows = rw (← gadget st) want.shape in
-    let many = rows_fit st.params t.instances.items t.sums.items id (length c.args.share.now.rows) c.args.instance.now (rw (← st.table_is) t.rows) want.issued shape in
-    let is : told t.instances.items t.sums.items id ≡ Some c.in-Some.held.now = sym c.in-Some.ensures.value in
-    ap length (sym (told_entry t.instances.items t.sums.items id c.in-Some.held.now [] is)) ∙ sym many ∙ c.requires.one_row
+-- as many rows as are awaited
+held_number : (st : Standing) (id party n : ℕ) (i : Instance) (held : List (List ℕ)) → IsWanted (rules_of st) (state st) id party n i
+    → told st.table.instances.items st.table.sums.items id ≡ Some held → n ≡ length held
+held_number st id party n i held want is = wanted_rows st id party n i want ∙ ap length (told_entry st.table.instances.items st.table.sums.items id held [] is)
+
+pub with_rows_of-requires-clause-number : goal.with_rows_of-requires-clause-number
+with_rows_of-requires-clause-number c =
+    let share = c.args.share.now in
+    held_number c.args.self.now share.id share.party (length share.rows) c.args.instance.now c.in-Some.held.now c.requires.wanted (sym c.in-Some.ensures.value)
 
 pub returns-clause-value : goal.returns-clause-value
 unfolding with_rows
@@ -34,8 +38,16 @@ returns-clause-value c =
     let st = c.args.self.now in let t = st.table in let id = c.args.share.now.id in let rows = c.args.share.now.rows in let held = c.in-Some.held.now in
     let want = c.requires.wanted in
     let ring : c.deref.result.now.params ≡ st.params = ap (λ (r : Ring). r.params) c.deref.ensures ∙ st.ring_is in
-    let value : IfOk c.with_row.result (λ sums. sums ≡ rows_sum st.params.q st.params.n held rows) =
-    subst (λ (p : Params). IfOk c.with_row.result (λ sums. sums ≡ rows_sum p.q p.n held rows)) ring c.with_row.ensures.value in
+    let value : IfOk c.with_rows_of.result (λ sums. sums ≡ rows_sum st.params.q st.params.n held rows) =
+    subst (λ (p : Params). IfOk c.with_rows_of.result (λ sums. sums ≡ rows_sum p.q p.n held rows)) ring c.with_rows_of.ensures.value in
     let within = sums_within t.params t.instances.items t.sums.items id c.args.instance.now t.rows want.issued in
     let is : told t.instances.items t.sums.items id ≡ Some held = sym c.in-Some.ensures.value in
     rw (sums_then st.params.q st.params.n id rows t.instances.items t.sums.items held within is) value
+
+pub returns-clause-number : goal.returns-clause-number
+returns-clause-number c =
+    let st = c.args.self.now in let share = c.args.share.now in let i = c.args.instance.now in let held = c.in-Some.held.now in
+    let want = c.requires.wanted in
+    let many : length share.rows ≡ length held = held_number st share.id share.party (length share.rows) i held want (sym c.in-Some.ensures.value) in
+    ok_then c.with_rows_of.result (λ sums. length sums ≡ length held) (λ sums. length sums ≡ rows_of i.signature (rules_of st).rows)
+    (λ sums e. e ∙ sym many ∙ sym want.shape) c.with_rows_of.ensures.number

@@ -2,8 +2,8 @@
 use Rattle.std.proofs.Common.{◌∙◌, sym, ap, refl, ◌<◌, length, arith, length-set}
 use Rattle.session_spec.specs.Stores.{with_rows, with_answer, opened}
 use Rattle.session_state.specs.Standings.{setting, rules_of, state, store}
-use Rattle.session_state.proofs.Counting.{gadget, awaited, rows_fit}
-use Rattle.session_state.proofs.LastShares.{evaluated_there, was_evaluated, last_matches, dec_circuits, dec_holds, dec_keyed}
+use Rattle.session_state.proofs.Counting.{awaited, wanted_rows}
+use Rattle.session_state.proofs.LastShares.{evaluated_there, was_evaluated, last_matches, dec_circuits, dec_holds, dec_not_key, same_keyed}
 use Rattle.session_state.proofs.standing.Standing.take_answer.Goals as goal
 
 pub count-requires-clause-awaited : goal.count-requires-clause-awaited
@@ -12,9 +12,8 @@ count-requires-clause-awaited c =
 
 pub count-requires-clause-number : goal.count-requires-clause-number
 count-requires-clause-number c =
-    let st = c.args.self.now in let t = st.table in
-    let shape = c.requires.wanted.shape in
-    rows_fit st.params t.instances.items t.sums.items c.args.share.now.id _ c.args.instance.now (rw (← st.table_is) t.rows) c.requires.wanted.issued (rw (← gadget st) shape)
+    let share = c.args.share.now in
+    wanted_rows c.args.self.now share.id share.party (length share.rows) c.args.instance.now c.requires.wanted
 
 pub invariant_of-self : goal.invariant_of-self
 invariant_of-self c =
@@ -39,15 +38,13 @@ invariant_of-self c =
       rules_are = st.rules_are;
       needed_are = st.needed_are;
       setting_is = st.setting_is;
-      free = st.free;
       few = st.few;
       lengths = (st.lengths.0, st.lengths.1, ap length c.requires.states ∙ ap length dec ∙ length-set st.states.items _ _ ∙ st.lengths.2);
       few_inputs = st.few_inputs;
-      few_needed = st.few_needed;
-      only_keys = st.only_keys;
+      few_turns = st.few_turns;
       matches = rw (e.instances, e.briefs, e.sums, c.requires.states, c.set.ensures) (last_matches st.params f s id p (length rows) i k want last (setting st) h q n rows _ (length-set h.answers _ _) st.matches);
       holds = rw (e.instances, e.briefs, e.sums, c.requires.states, c.set.ensures) (dec_holds st.params f s id p (length rows) i k want last h q n rows _ c.args.value made.signature there made.fits st.holds);
-      keyed = rw (e.instances, e.briefs, e.sums, c.set.ensures) (st.keyed ∙ sym (dec_keyed st.params f s id p (length rows) i k want last (setting st) h q n rows _ c.args.circuit made.signature));
+      keyed = rw (e.instances, e.briefs, e.sums, c.set.ensures) (st.keyed ∙ sym (same_keyed st.params f s id p (length rows) i k want last (setting st) h q n rows _ (dec_not_key i.signature c.args.circuit made.signature)));
     }
 
 pub returns-clause-store : goal.returns-clause-store

@@ -4,8 +4,8 @@ use Rattle.mod_ring.specs.declared.ring.Ring.{Ring}
 use Rattle.session_rules.specs.Deeds.{answered_by}
 use Rattle.session_spec.specs.Stores.{with_rows, with_answer}
 use Rattle.session_state.specs.Standings.{setting, rules_of, state, store}
-use Rattle.session_state.proofs.Counting.{gadget, awaited, rows_fit}
-use Rattle.session_state.proofs.LastShares.{last_matches, key_circuits, key_holds, key_keyed}
+use Rattle.session_state.proofs.Counting.{awaited, wanted_rows}
+use Rattle.session_state.proofs.LastShares.{last_matches, key_circuits, same_holds, key_keyed}
 use Rattle.session_state.proofs.standing.Standing.take_key.Goals as goal
 
 pub count-requires-clause-awaited : goal.count-requires-clause-awaited
@@ -14,9 +14,8 @@ count-requires-clause-awaited c =
 
 pub count-requires-clause-number : goal.count-requires-clause-number
 count-requires-clause-number c =
-    let st = c.args.self.now in let t = st.table in
-    let shape = c.requires.wanted.shape in
-    rows_fit st.params t.instances.items t.sums.items c.args.share.now.id _ c.args.instance.now (rw (← st.table_is) t.rows) c.requires.wanted.issued (rw (← gadget st) shape)
+    let share = c.args.share.now in
+    wanted_rows c.args.self.now share.id share.party (length share.rows) c.args.instance.now c.requires.wanted
 
 pub invariant_of-self : goal.invariant_of-self
 unfolding with_rows
@@ -39,14 +38,12 @@ invariant_of-self c =
       rules_are = st.rules_are;
       needed_are = st.needed_are;
       setting_is = st.setting_is;
-      free = st.free;
       few = st.few;
       lengths = st.lengths;
       few_inputs = st.few_inputs;
-      few_needed = st.few_needed;
-      only_keys = st.only_keys;
+      few_turns = st.few_turns;
       matches = rw (e.instances, e.briefs, e.sums) (rw (← same) (last_matches st.params f s id p (length rows) i k want last (setting st) h q n rows h.answers refl st.matches));
-      holds = rw (e.instances, e.briefs, e.sums) (rw (← same) (key_holds st.params f s id p (length rows) i k want last h q n rows pk st.holds));
+      holds = rw (e.instances, e.briefs, e.sums) (rw (← same) (same_holds st.params f s id p (length rows) i k want last h q n rows same st.holds));
       keyed = rw (e.instances, e.briefs, e.sums, made.value, ring) (key_keyed st.params f s id p (length rows) i k want last (setting st) (with_rows (setting st) id rows h) pk);
     }
 

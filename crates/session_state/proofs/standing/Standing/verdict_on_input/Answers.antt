@@ -1,5 +1,6 @@
--- What the rules look at is of the standing; the reply is no list.
+-- What the rules look at is of the standing, and void instances play no part; the reply is no list.
 use Rattle.std.proofs.Common.{◌≡◌, ◌∙◌, sym, ap, ℕ, true, false, []}
+use Rattle.participants.specs.Live.{live_ones}
 use Rattle.session_rules.specs.declared.call.Call.TheVariants as call
 use Rattle.session_rules.specs.declared.reply.Reply.TheVariants as reply
 use Rattle.session_rules.specs.declared.deed.Deed.TheVariants.{Gives}
@@ -8,6 +9,7 @@ use Rattle.session_rules.specs.declared.fixed.Fixed.{Fixed}
 use Rattle.session_rules.specs.States.{seen}
 use Rattle.session_rules.specs.Deeds.{is_nothing}
 use Rattle.session_rules.specs.Steps.{is_input, input}
+use Rattle.session_rules.proofs.Live.{input_live}
 use Rattle.session_rules.proofs.Seen.{input_seen}
 use Rattle.session_state.specs.Handed.{is_list}
 use Rattle.session_state.specs.Standings.{rules_of, state, inputted}
@@ -16,8 +18,8 @@ use Rattle.session_state.proofs.Leading.{IsDone, plain, input_does, fair_input}
 use Rattle.session_state.proofs.Onward.{verdict_is}
 use Rattle.session_state.proofs.standing.Standing.verdict_on_input.Goals as goal
 
-said_so : (st : Standing) (c k : ℕ) (v : Verdict) → v ≡ input st.rules (seen st.present.bits st.table.instances.items st.given.items []) c k → v ≡ inputted st c k
-said_so st c k v e = e ∙ input_seen st.rules (state st) c k ∙ ap (λ (f : Fixed). input f (state st) c k) st.rules_are
+said_so : (st : Standing) (c k : ℕ) (v : Verdict) → v ≡ input st.rules (seen st.present.bits (live_ones st.table.instances.items) st.given.items []) c k → v ≡ inputted st c k
+said_so st c k v e = e ∙ input_live st.rules st.present.bits st.table.instances.items st.given.items c k ∙ input_seen st.rules (state st) c k ∙ ap (λ (f : Fixed). input f (state st) c k) st.rules_are
 
 pub returns-clause-said : goal.returns-clause-said
 returns-clause-said c = said_so c.args.self.now c.args.circuit c.args.input c.judge_input.result cc
