@@ -75,6 +75,7 @@ module _ {R : Type 0} {K : Ghosts R} where
         most = s.sound.most;
         few = rw logged (omega (arith, length-append s.log.items (entry caller c copy ∷ [])));
         modest = s.sound.modest;
+        free = s.sound.free;
         parties = still_present st.params.parties f (state st) (state now) caller c joins s.sound.parties moved.state;
         values = s.sound.values;
         honest = λ t. subst (λ (z : State). IsHonest (known s).setting (known s).seeds z (store now)) (sym moved.state)

@@ -21,10 +21,11 @@ use Rattle.session_rules.proofs.Keeps.{histories_keep}
 use Rattle.session_rules.proofs.Grounds.{histories_ground}
 use Rattle.session_rules.proofs.Presence.{histories_issue_few}
 use Rattle.session_rules.proofs.Runs.{legal_ones_grow, next_state}
-use Rattle.session_spec.specs.Settings.{Setting, rules, Offer, Tells}
+use Rattle.session_spec.specs.Settings.{Setting, rules, Offer, Tells, NeedsNoSwitch}
 use Rattle.session_laws.proofs.Beginnings.{rules_whole, opening_is_honest}
 use Rattle.session_state.specs.declared.standing.Standing.{Standing}
 use Rattle.session_state.specs.Standings.{setting, rules_of, state, HasRoom, store}
+use Rattle.session_state.proofs.Asked.{few_keys}
 use Rattle.session_core.specs.Sessions.{IsReady, HasTold, IsModest, IsSoundBy}
 use Rattle.std.proofs.lemmas.List.FromFn.{length-map-range_with_len}
 use Rattle.party_roll.specs.Seeds.{seeds_told}
@@ -46,10 +47,10 @@ grounded st es e = subst (λ (s : State). Grounded (rules_of st) s) (sym e) (his
 
 -- ---- room
 
-few_moves : (st : Standing) → most_moves (rules_of st) ≤ 67
+few_moves : (st : Standing) → most_moves (rules_of st) ≤ 85
 unfolding most_moves
 few_moves st =
-    let wanted : length (keys (rules_of st)) ≤ 1 = rw (← st.rules_are, ← st.needed_are) st.few_needed in
+    let wanted : length (keys (rules_of st)) ≤ 19 = few_keys (rules_of st) (rw (← st.rules_are) st.few_turns) in
     let plans : length (rules_of st).plans ≡ length st.circuits = rw (← st.rules_are) st.lengths.0 in
     let few = st.few in
     omega arith
@@ -59,7 +60,7 @@ has_room st es most e l few =
     let m = few_moves st in
     let issued : length (state st).instances ≤ length es * most_moves (rules_of st) =
     subst (λ (s : State). length s.instances ≤ length es * most_moves (rules_of st)) (sym e) (histories_issue_few (rules_of st) es) in
-    let most : (length es) * most_moves (rules_of st) ≤ 8388607 * 67 = mul-le (length es) (most_moves (rules_of st)) 8388607 67 (omega arith) m in
+    let most : (length es) * most_moves (rules_of st) ≤ 8388607 * 85 = mul-le (length es) (most_moves (rules_of st)) 8388607 85 (omega arith) m in
     omega arith
 
 pub is_ready : (st : Standing) (es : List Entry) (most : ℕ) → state st ≡ state_after (rules_of st) es → length es < most → most ≤ 8388608 → IsReady st
@@ -98,7 +99,7 @@ pub stands : (is_told : Bool) (seed : ℕ → List ℕ) (most : ℕ) (st : Stand
     → IsSoundBy is_told seed most st es → is_told ≡ true → Stands st.params (setting st) (seeds_told seed st.params.parties) (state st) (store st)
 stands is_told seed most st es e h t = record {
   setting = st.setting_is;
-  free = st.free;
+  free = h.free;
   values = λ k d l. let it = h.values t k d l in tells_of st.params _ _ refl it.told it.number it.plain;
   parties = seeds_number seed st.params.parties;
   kept = kept st es e;
@@ -117,13 +118,14 @@ pub opened : (st : Standing) (items : List Entry) → items ≡ [] → state st 
 opened st items none e = subst (λ (z : List Entry). Leads st z) (sym none) (opened_none st e)
 
 pub sound_first : (is_told : Bool) (seed : ℕ → List ℕ) (most : ℕ) (st : Standing) (items : List Entry) → items ≡ [] → 1 ≤ most → most ≤ 8388608
-    → IsModest (rules_of st) → (is_told ≡ true → All (HasTold st.params) st.circuits) → state st ≡ opening (rules_of st) → store st ≡ empty (setting st)
+    → IsModest (rules_of st) → NeedsNoSwitch (setting st) → (is_told ≡ true → All (HasTold st.params) st.circuits) → state st ≡ opening (rules_of st) → store st ≡ empty (setting st)
     → IsSoundBy is_told seed most st items
-sound_first is_told seed most st items none some few modest values e keeps = record {
+sound_first is_told seed most st items none some few modest free values e keeps = record {
   some = some;
   most = few;
   few = rw none (omega arith);
   modest = modest;
+  free = free;
   parties = nobody_present st.params.parties (rules_of st) (state st) e;
   values = values;
   honest = λ t. subst (λ (z : State). IsHonest (setting st) (seeds_told seed st.params.parties) z (store st)) (sym e)

@@ -5,7 +5,7 @@ use Rattle.std.specs.declared.alloc.Global.{Global}
 use Rattle.std.specs.declared.sync.Arc.{Arc}
 use Rattle.std.specs.Option.{option_map}
 use Rattle.std.proofs.lemmas.Bool.{not-true}
-use Rattle.std.proofs.lemmas.List.Elements.{All-contains}
+use Rattle.std.proofs.lemmas.List.Elements.{All-get_or}
 use Rattle.ring_spec.specs.Pairs.{Key, KeyFits}
 use Rattle.param_set.specs.declared.params.Params.{Params}
 use Rattle.proto_names.specs.Names.{is_void, rows_of, polys_of_brief}
@@ -16,6 +16,7 @@ use Rattle.proto_names.specs.declared.signature.Signature.TheVariants.{Pk, Dec}
 use Rattle.proto_names.specs.declared.instance.Instance.{Instance}
 use Rattle.proto_names.specs.declared.instance.Stage.{Stage}
 use Rattle.proto_names.specs.declared.instance.Stage.TheVariants.{Opened, Complete, Void}
+use Rattle.cipher_spec.specs.Ciphers.{is_switch_free}
 use Rattle.circuit_runner.specs.declared.job.Job.{Job}
 use Rattle.instance_table.specs.Tables.{stands as is_standing, role_told, row_count, row_counts}
 use Rattle.instance_table.specs.declared.brief.Brief.{Brief}
@@ -33,7 +34,7 @@ use Rattle.session_rules.specs.Facts.{IsLive}
 use Rattle.session_rules.specs.Histories.{state_after}
 use Rattle.session_rules.proofs.Readiness.{found_ready}
 use Rattle.session_rules.proofs.Marks.{instance_id, instance_within, numbered_at}
-use Rattle.session_spec.specs.Settings.{Setting, rules}
+use Rattle.session_spec.specs.Settings.{Setting, nodes_at, no_offer, rules, IsSwitchFree, NeedsNoSwitch}
 use Rattle.session_spec.specs.Outputs.{key_instance, key_in, keys_in, inputs_of, polys_of, sums_of}
 use Rattle.session_spec.specs.Stores.{Store, cipher_or, held_polys, held_sums, held_key, key_by}
 use Rattle.session_laws.specs.Laws.{Stands}
@@ -41,11 +42,11 @@ use Rattle.session_laws.proofs.Plans.{rules_number}
 use Rattle.session_laws.proofs.Inputs.{ready_ones_have_inputs}
 use Rattle.session_laws.proofs.HeldKeys.{held_keys_are_keys}
 use Rattle.session_state.specs.declared.standing.Standing.{Standing}
-use Rattle.session_state.specs.Parts.{IsPk}
 use Rattle.session_state.specs.Shared.{shared_if}
 use Rattle.session_state.specs.Handed.{IsBriefOf, IsJobFor, brief_reply}
 use Rattle.session_state.specs.Standings.{rules_of, state, store, setting}
 use Rattle.session_core.proofs.Grown.{grounded, kept}
+use Rattle.session_core.proofs.Keyless.{only_pk}
 use Rattle.std.proofs.lemmas.List.{get_or-map, length-map}
 use Rattle.ring_spec.specs.Ring.{IsPoly}
 use Rattle.draw_spec.specs.Streams.{instance_stream}
@@ -104,12 +105,10 @@ brief_made p h i b σ x e made = record {
   fit = x.told.fit;
 }
 
-pub brief_fits : (st : Standing) (es : List Entry) (i : Instance) (h : Store) (b : Brief) → state st ≡ state_after (rules_of st) es → Contains (state st).instances i
+pub brief_fits : (st : Standing) (es : List Entry) (i : Instance) (h : Store) (b : Brief) → NeedsNoSwitch (setting st) → state st ≡ state_after (rules_of st) es → Contains (state st).instances i
     → IsBriefOf st.params h i b → IsBrief st.params b
-brief_fits st es i h b e m x = elim ((grounded st es e).asked i m) [
-  | inl wanted ↦
-      let wanted_here : Contains st.needed.items i.signature = rw (st.needed_are, st.rules_are) wanted in
-      brief_made st.params h i b Pk x (All-contains IsPk st.needed.items i.signature st.only_keys wanted_here) refl
+brief_fits st es i h b free e m x = elim ((grounded st es e).asked i m) [
+  | inl wanted ↦ brief_made st.params h i b Pk x (only_pk st.params st.public st.circuits i.signature free wanted) refl
   | inr decrypts ↦ brief_made st.params h i b (Dec decrypts.0) x decrypts.1 refl
 ]
 
@@ -143,14 +142,14 @@ pub key_if : (p : Params) (w : Setting) (seeds : List (List ℕ)) (s : State) (h
 key_if p w seeds s h None y made = tt
 key_if p w seeds s h (Some key) y made = key_honest p w seeds s h key.value y made
 
-pub made_of : (st : Standing) (es : List Entry) (id : ℕ) (said : Reply) (handed : Option (Arc Brief Global)) → state st ≡ state_after (rules_of st) es → said ≡ steps.brief (state st) id
+pub made_of : (st : Standing) (es : List Entry) (id : ℕ) (said : Reply) (handed : Option (Arc Brief Global)) → NeedsNoSwitch (setting st) → state st ≡ state_after (rules_of st) es → said ≡ steps.brief (state st) id
     → IfSome handed (λ a. said ≡ brief_reply a.value)
     → IfSome handed (λ a. (i : Instance) → instance (state st).instances id ≡ Some i → IsBriefOf st.params (store st) i a.value)
     → IfSome handed (λ a. IsBrief st.params a.value)
-made_of st es id said None e replies goes told = tt
-made_of st es id said (Some a) e replies goes told =
+made_of st es id said None free e replies goes told = tt
+made_of st es id said (Some a) free e replies goes told =
     let b = has_brief (state st) id a.value (sym replies ∙ goes) in
-    brief_fits st es b.instance_ (store st) a.value e (instance_within (state st).instances id b.instance_ b.found) (told b.instance_ b.found)
+    brief_fits st es b.instance_ (store st) a.value free e (instance_within (state st).instances id b.instance_ b.found) (told b.instance_ b.found)
 
 pub polys_of_if : (p : Params) (w : Setting) (seeds : List (List ℕ)) (s : State) (h : Store) (id : ℕ) (said : Reply) (handed : Option (Arc Brief Global)) → Stands p w seeds s h
     → said ≡ steps.brief s id → IfSome handed (λ a. said ≡ brief_reply a.value)
@@ -191,6 +190,17 @@ pub inputs_if : (p : Params) (w : Setting) (seeds : List (List ℕ)) (s : State)
     → IfSome job (λ j. j.inputs ≡ inputs_of w seeds (key_in w seeds s.instances) j.number)
 inputs_if p w seeds s h who None y goes is = tt
 inputs_if p w seeds s h who (Some j) y goes is = is.inputs ∙ taken_inputs p w seeds s h j.number y (taken_ready (rules w) s who j.number goes)
+
+-- its circuit needs no key switch
+free_at : (w : Setting) (s : State) (c : ℕ) → NeedsNoSwitch w → steps.next_ready (rules w) s ≡ Some c → is_switch_free (nodes_at w c) ≡ true
+free_at w s c free e =
+    let found = found_ready (rules w) s c e in
+    All-get_or IsSwitchFree w.offers c no_offer (omega (arith, found.1, rules_number w)) free
+
+pub free_if : (w : Setting) (s : State) (h : Store) (who : ℕ) (job : Option Job) → NeedsNoSwitch w
+    → IfSome job (λ j. (steps.take (rules w) s who).reply ≡ reply.Job j.number) → IfSome job (λ j. IsJobFor w h j.number j) → IfSome job (λ j. is_switch_free j.circuit.value ≡ true)
+free_if w s h who None free goes is = tt
+free_if w s h who (Some j) free goes is = ap is_switch_free is.circuit ∙ free_at w s j.number free (taken_ready (rules w) s who j.number goes)
 
 -- ---- the public key fits, whatever the shares were
 

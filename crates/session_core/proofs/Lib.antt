@@ -1,3 +1,4 @@
+pub mod Keyless
 pub mod Members
 pub mod Grown
 pub mod Going

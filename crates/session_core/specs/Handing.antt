@@ -3,6 +3,7 @@ use Rattle.std.specs.Prelude.{◌≡◌, ℕ, ◌<◌, List, length, true, Some,
 use Rattle.ring_spec.specs.Pairs.{Cipher, KeyFits}
 use Rattle.proto_names.specs.Instances.{instance}
 use Rattle.proto_names.specs.declared.instance.Instance.{Instance}
+use Rattle.cipher_spec.specs.Ciphers.{is_switch_free}
 use Rattle.instance_table.specs.Tables.{role_told}
 use Rattle.party_roll.specs.Briefs.{IsBrief}
 use Rattle.session_rules.specs.declared.reply.Reply.{Reply}
@@ -42,13 +43,14 @@ pub record HandsBrief (id : ℕ) (k : Known) (s : State) (h : Store) (handed : B
       → IfSome handed.brief (λ a. a.value.polys
       ≡ polys_of k.setting k.seeds (keys_in k.setting k.seeds s.instances) (role_told a))
 
--- the job for the circuit that the reply names, and none with Nothing: it can be evaluated, and its inputs are
--- the encryptions of their values where the seeds are told
+-- the job for the circuit that the reply names, and none with Nothing: it can be evaluated, without a key switch, and
+-- its inputs are the encryptions of their values where the seeds are told
 pub record HandsJob (k : Known) (s : State) (h : Store) (handed : Taking) : Type 0 where
   pub job : IfSome handed.job (λ j. handed.reply ≡ reply.Job j.number)
   pub none : handed.job ≡ None → handed.reply ≡ reply.Nothing
   pub circuit : IfSome handed.job (λ j. IsJobFor k.setting h j.number j)
   pub ready : IfSome handed.job (λ j. CanEvaluate k.params j)
+  pub free : IfSome handed.job (λ j. is_switch_free j.circuit.value ≡ true)
   pub honest : k.tells ≡ true
       → IfSome handed.job (λ j. j.inputs ≡ inputs_of k.setting k.seeds (key_in k.setting k.seeds s.instances) j.number)
 

@@ -18,7 +18,7 @@ use Rattle.session_rules.specs.Steps.{step}
 use Rattle.session_rules.specs.Histories.{state_after}
 use Rattle.session_rules.specs.Facts.{Kept}
 use Rattle.session_rules.specs.Grounds.{Grounded}
-use Rattle.session_spec.specs.Settings.{Setting, Offer, rules}
+use Rattle.session_spec.specs.Settings.{Setting, Offer, NeedsNoSwitch, rules}
 use Rattle.session_spec.specs.Honesty.{IsHonest, BringsShare, BringsInput, BringsOutput}
 use Rattle.session_state.specs.declared.standing.Standing.{Standing}
 use Rattle.session_state.specs.Standings.{setting, rules_of, state, store, HasRoom}
@@ -93,12 +93,13 @@ abbrev pub ArePresent : ℕ → State → Type 0
 ArePresent n s = (p : ℕ) → has s.present p ≡ true → p ≤ n
 
 -- what holds of a standing behind these calls: its polynomials are those of honest parties where their seeds are
--- told
+-- told, and no circuit needs a key switch
 pub record IsSound (k : Known) (st : Standing) (es : List Entry) : Type 0 where
   pub some : 1 ≤ k.most
   pub most : k.most ≤ 8388608
   pub few : length es ≤ k.most
   pub modest : IsModest (rules k.setting)
+  pub free : NeedsNoSwitch k.setting
   pub parties : ArePresent k.params.parties (state st)
   pub values : k.tells ≡ true → All (HasTold k.params) k.setting.offers
   pub honest : k.tells ≡ true → IsHonest k.setting k.seeds (state st) (store st)

@@ -1,7 +1,8 @@
-use Rattle.std.proofs.Common.{◌≡◌, ◌∙◌, sym, ap, subst, refl, [], ◌∷◌, Some, None}
+use Rattle.std.proofs.Common.{◌≡◌, ◌∙◌, sym, ap, subst, refl, true, [], ◌∷◌, Some, None}
 use Rattle.ring_spec.specs.Pairs.{CipherFits}
 use Rattle.param_set.specs.Numbers.{numbers_of}
 use Rattle.param_set.specs.declared.params.Params.{Params}
+use Rattle.cipher_spec.specs.Ciphers.{is_switch_free}
 use Rattle.circuit_runner.specs.declared.job.Job.{Job}
 use Rattle.session_rules.specs.declared.call.Call.TheVariants as call
 use Rattle.session_rules.specs.declared.reply.Reply.TheVariants as reply
@@ -11,7 +12,7 @@ use Rattle.session_rules.specs.Steps.{step}
 use Rattle.session_rules.specs.Tasks.{finishes, exhausts, job}
 use Rattle.session_spec.specs.Settings.{rules}
 use Rattle.session_spec.specs.Outputs.{key_in, inputs_of}
-use Rattle.session_state.specs.Handed.{IsJobFor, CanEvaluate}
+use Rattle.session_state.specs.Handed.{IsJobFor}
 use Rattle.session_core.specs.Sessions.{Known, BringsOutputTo}
 use Rattle.session_core.specs.Calls.{known, state_of, store_of}
 use Rattle.session_core.specs.declared.stop.Stop.TheVariants.{NoMemory}
@@ -33,13 +34,13 @@ finish-requires-clause-ct g c κs within =
     let e : o ≡ Some j = let x = c.in_ok-job.job-is in let y = c.in-Some.is in cc in
     let ct = c.in_ok-ct-in-Some.ct in
     let its = at_some (λ (z : Job). IsJobFor k.setting (store_of old) z.number z) o j e b.job.circuit in
-    let able : CanEvaluate k.params j = at_some (λ (z : Job). CanEvaluate k.params z) o j e b.job.ready in
+    let free : is_switch_free j.circuit.value ≡ true = at_some (λ (z : Job). is_switch_free z.circuit.value ≡ true) o j e b.job.free in
     let stays = ap (λ (z : State). z.instances) b.called.made.state ∙ take_issues (rules_for old) (state_behind old) ∙ ap (λ (z : State). z.instances) (sym old.state_is) in
     subst (λ (z : Known). BringsOutputTo z (state_of mid) 0 j.number ct) (sym (known_is old mid b.called.about)) (record {
       fits = subst (λ (z : Params). CipherFits z.q z.n ct) c.requires.ring c.in_ok-ct-in-Some.ensures.fits;
       honest = λ t done.
           let inputs = at_some (λ (z : Job). z.inputs ≡ inputs_of k.setting k.seeds (key_in k.setting k.seeds (state_of old).instances) z.number) o j e (b.job.honest t) in
-          output_brought k.setting k.seeds (state_of mid).instances j.number ct j.inputs j.circuit.value c.args.ring.now.params (ap numbers_of (sym c.requires.ring)) able.switch_free
+          output_brought k.setting k.seeds (state_of mid).instances j.number ct j.inputs j.circuit.value c.args.ring.now.params (ap numbers_of (sym c.requires.ring)) free
           (inputs ∙ ap (λ z. inputs_of k.setting k.seeds (key_in k.setting k.seeds z) j.number) (sym stays)) its.circuit c.in_ok-ct-in-Some.ensures.value;
     })
 

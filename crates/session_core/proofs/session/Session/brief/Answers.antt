@@ -41,7 +41,7 @@ returns-clause-brief g c =
       told = ok.told;
       there = ok.there;
       goes = ok.stands;
-      made = made_of st s.log.items c.args.id it.reply it.brief s.state_is ok.reply ok.stands ok.told;
+      made = made_of st s.log.items c.args.id it.reply it.brief s.sound.free s.state_is ok.reply ok.stands ok.told;
       honest = λ t. polys_of_if st.params (setting st) _ (state st) (store st) c.args.id it.reply it.brief
           (stands_in s t) ok.reply ok.stands ok.told;
     })

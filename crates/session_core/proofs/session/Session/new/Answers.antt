@@ -1,7 +1,7 @@
 -- A session begins with no history, and what it keeps is honest.
-use Rattle.std.proofs.Common.{◌≡◌, ◌∙◌, sym, ap}
+use Rattle.std.proofs.Common.{◌≡◌, ◌∙◌, sym, ap, subst}
 use Rattle.session_rules.specs.States.{opening}
-use Rattle.session_spec.specs.Settings.{Setting, rules}
+use Rattle.session_spec.specs.Settings.{Setting, NeedsNoSwitch, rules}
 use Rattle.session_spec.specs.Stores.{empty}
 use Rattle.session_state.specs.Parts.{setting_by}
 use Rattle.session_state.specs.Standings.{setting, rules_of, state, store}
@@ -21,5 +21,5 @@ invariant_of-result g c =
       legal = leads.legal;
       state_is = leads.state_is;
       sound = sound_first _ _ c.args.max_calls st c.new-2.result.items c.new-2.ensures.items r.some_calls r.most_calls
-          (rw setting_is r.modest) (λ t. rw (ok.params, offers) (r.values t)) first keeps;
+          (rw setting_is r.modest) (subst NeedsNoSwitch (sym setting_is) r.free) (λ t. rw (ok.params, offers) (r.values t)) first keeps;
     }

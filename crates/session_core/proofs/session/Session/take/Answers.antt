@@ -6,7 +6,7 @@ use Rattle.session_spec.specs.Stores.{nothing_brought}
 use Rattle.session_state.specs.declared.handed.Taking.{Taking}
 use Rattle.session_state.specs.Standings.{setting, rules_of, state, store}
 use Rattle.session_core.proofs.Brought.{take_brings}
-use Rattle.session_core.proofs.Handed.{inputs_if}
+use Rattle.session_core.proofs.Handed.{free_if, inputs_if}
 use Rattle.session_core.proofs.Going.{stands_in, goes_on, called, reply_is}
 use Rattle.session_core.proofs.session.Session.take.Goals as goal
 
@@ -41,6 +41,7 @@ returns-clause-job g c =
       none = λ e. ok.reply ∙ ok.there e;
       circuit = ok.circuit;
       ready = ok.ready;
+      free = free_if (setting st) (state st) (store st) c.args.caller c.in_ok-taking.taking.job s.sound.free ok.job ok.circuit;
       honest = λ t. inputs_if st.params (setting st) _ (state st) (store st) c.args.caller c.in_ok-taking.taking.job
           (stands_in s t) ok.job ok.circuit;
     })
