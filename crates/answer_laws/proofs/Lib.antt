@@ -4,3 +4,5 @@ pub mod Inputs
 pub mod Decryptions
 pub mod Answers
 pub mod Belongs
+pub mod SwitchKeys
+pub mod HeldKeys

@@ -1,2 +1,4 @@
 pub mod Keys
+pub mod SwitchKeys
+pub mod ByKeys
 pub mod Nodes

@@ -1,7 +1,9 @@
 pub mod Reduced
 pub mod Multiples
+pub mod Places
+pub mod Switches
 pub mod Nodes
 pub mod Walks
-pub mod Outputs
 pub mod Within
+pub mod Outputs
 pub mod SwitchFree

@@ -1,8 +1,8 @@
 -- What holds at the place of a node, where it holds at the places of its operands.
-use Rattle.std.proofs.Common.{◌≡◌, ℕ, ◌≤◌, ◌<◌, Bool, true, false, not, ◌&&◌, ltb, eqb, List, [], ◌∷◌, length, replicate, refl, subst, ◌⊎◌, inl, inr, arith}
-use Rattle.std.specs.Prelude.{Option, Some, None, All, nat_lt}
+use Rattle.std.proofs.Common.{◌≡◌, ℕ, ◌*◌, ◌%◌, ◌≤◌, ◌<◌, true, false, not, ◌&&◌, ltb, eqb, List, [], ◌∷◌, length, replicate, refl, subst, inl, inr, arith}
+use Rattle.std.specs.Prelude.{Option, Some, None, All, nat_eq, nat_le, nat_lt}
 use Rattle.std.specs.List.{slice_get, list_all}
-use Rattle.std.proofs.lemmas.Bool.{ltb-true, eqb-true}
+use Rattle.std.proofs.lemmas.Bool.{cases_Bool, ltb-true, eqb-true}
 use Rattle.std.proofs.lemmas.List.{length-replicate}
 use Rattle.std.proofs.lemmas.List.Elements.{All-nil, All-cons, All-get_or, All-from_get_or}
 use Rattle.std.proofs.lemmas.List.{get_or-replicate}
@@ -21,28 +21,12 @@ use Rattle.param_set.specs.Numbers.{numbers_of}
 use Rattle.noise_ledger.specs.Bounds.{numbers_for, sum_bound, neg_bound, plain_mul_bound}
 use Rattle.noise_ledger.specs.Ledger.{bound_at, product_bound, node_bound}
 use Rattle.cipher_spec.specs.Keys.{Keys}
-use Rattle.cipher_spec.specs.Ciphers.{is_rotation, no_cipher, cipher_at, const_of, const_at, product_cipher, node_cipher}
+use Rattle.cipher_spec.specs.Ciphers.{no_cipher, cipher_at, const_of, const_at, product_cipher, node_cipher}
 use Rattle.circuit_laws.specs.Carrying.{AreInputs}
+use Rattle.circuit_laws.specs.Switches.{AreKeysFor}
+use Rattle.circuit_laws.proofs.Places.{Holds, Each, AllWithin, both_pass, one_fails}
+use Rattle.circuit_laws.proofs.Switches.{rotation_holds, full_holds}
 use Rattle.circuit_laws.proofs.Multiples.{difference_carries, negative_carries, multiple_carries, trivial_carries}
-
--- at place k a ciphertext carries a plaintext within a bound, and both fit; a constant's plaintext is its value
-pub record Holds (p : Params) (s : List ℕ) (nodes : List Node) (k v : ℕ) (c : Cipher) (m : List ℕ) : Type 0 where
-  pub carries : Carries p.q p.n p.t s v c m
-  pub plain : IsPoly p.t p.n m
-  pub fits : CipherFits p.q p.n c
-  pub named : (value : List ℕ) → slice_get nodes k ≡ Some (Const value) → m ≡ value
-
--- ---- tests
-
-pub both_pass : (a b : Bool) → (a && b) ≡ true → (a ≡ true) × (b ≡ true)
-both_pass true b e = (refl, e)
-both_pass false b e = (cc, cc)
-
--- of two operands that don't make a full product, one is a constant
-pub one_fails : (a b : Bool) → (not a && not b) ≡ false → (b ≡ true) ⊎ ((b ≡ false) × (a ≡ true))
-one_fails a true e = inl refl
-one_fails true false e = inr (refl, refl)
-one_fails false false e = cc
 
 -- a constant's place names its value
 const_is : (o : Option Node) → is_const o ≡ true → o ≡ Some (Const (const_of o))
@@ -68,10 +52,6 @@ const_plain n t value e =
     record { entries = eqb-true (length value) n both.0; below = each_below t value both.1 }
 
 -- ---- the nodes by their kinds
-
--- it holds at each place below k
-abbrev pub Each : Params → List ℕ → List Node → ℕ → List ℕ → List Cipher → List (List ℕ) → Type 0
-Each p s nodes k bounds ciphers plains = (j : ℕ) → j < k → Holds p s nodes j (bound_at bounds j) (cipher_at ciphers j) (entry plains j)
 
 -- no coefficient but 0
 zero_poly : (q n : ℕ) → 0 < q → IsPoly q n (replicate n 0)
@@ -115,27 +95,27 @@ product_holds p threshold keys s nodes k left right bounds ciphers plains h ht e
           (subst (λ (m : List ℕ). Holds p s nodes k (plain_mul_bound (numbers_for p threshold) w) (cipher_multiple p.q p.n d m) (ring_product p.t p.n b a)) is all)
     ]
 
--- the next place, whatever node stands there, where it is neither a rotation nor a full product
+-- the next place, whatever node stands there
 pub node_holds : (p : Params) (threshold : ℕ) (keys : Keys) (s : List ℕ) (nodes : List Node) (values : List (List ℕ)) (inputs : List Cipher) (k given : ℕ)
     (bounds : List ℕ) (ciphers : List Cipher) (plains : List (List ℕ)) (node : Node) →
-    0 < p.q → 0 < p.t → AreInputs p threshold s nodes values inputs → Each p s nodes k bounds ciphers plains →
-    slice_get nodes k ≡ Some node → may_stand p.n p.t p.parties k node ≡ true → is_rotation node ≡ false → is_full nodes node ≡ false →
+    0 < p.q → 0 < p.t → AreKeysFor p threshold s nodes keys → IsPoly p.q p.n s → AreInputs p threshold s nodes values inputs → Each p s nodes k bounds ciphers plains →
+    AllWithin p threshold nodes k bounds → slice_get nodes k ≡ Some node → may_stand p.n p.t p.parties k node ≡ true →
     given_after given node ≤ length (owners nodes) →
     Holds p s nodes k (node_bound (numbers_for p threshold) nodes bounds node) (node_cipher (numbers_of p) keys inputs nodes ciphers given node) (node_value p.n p.t values plains given node)
 unfolding may_stand node_bound node_cipher node_value given_after sum_bound neg_bound cipher_sum cipher_difference cipher_negative trivial
-node_holds p threshold keys s nodes values inputs k given bounds ciphers plains (Input owner) h ht ready each at stands turn full few = record {
+node_holds p threshold keys s nodes values inputs k given bounds ciphers plains (Input owner) h ht owned secret ready each within at stands few = record {
   carries = ready.carry given (omega arith);
   plain = All-get_or (IsPoly p.t p.n) values given [] (omega (arith, ready.polys)) ready.plain;
   fits = All-get_or (CipherFits p.q p.n) inputs given no_cipher (omega (arith, ready.ciphers)) ready.fit;
   named = λ v e. cc;
 }
-node_holds p threshold keys s nodes values inputs k given bounds ciphers plains (Const value) h ht ready each at stands turn full few = record {
+node_holds p threshold keys s nodes values inputs k given bounds ciphers plains (Const value) h ht owned secret ready each within at stands few = record {
   carries = trivial_carries p.q p.n p.t value s h;
   plain = const_plain p.n p.t value stands;
   fits = record { c0 = multiple_poly p.q p.n (delta p.q p.t) value h; c1 = zero_poly p.q p.n h };
   named = λ v e. cc;
 }
-node_holds p threshold keys s nodes values inputs k given bounds ciphers plains (Add left right) h ht ready each at stands turn full few =
+node_holds p threshold keys s nodes values inputs k given bounds ciphers plains (Add left right) h ht owned secret ready each within at stands few =
     let both = both_pass (ltb left k) (ltb right k) stands in
     let one = each left (ltb-true left k both.0) in let two = each right (ltb-true right k both.1) in
     let c = cipher_at ciphers left in let d = cipher_at ciphers right in
@@ -145,7 +125,7 @@ node_holds p threshold keys s nodes values inputs k given bounds ciphers plains 
       fits = record { c0 = sum_poly p.q p.n c.c0 d.c0 h; c1 = sum_poly p.q p.n c.c1 d.c1 h };
       named = λ v e. cc;
     }
-node_holds p threshold keys s nodes values inputs k given bounds ciphers plains (Sub left right) h ht ready each at stands turn full few =
+node_holds p threshold keys s nodes values inputs k given bounds ciphers plains (Sub left right) h ht owned secret ready each within at stands few =
     let both = both_pass (ltb left k) (ltb right k) stands in
     let one = each left (ltb-true left k both.0) in let two = each right (ltb-true right k both.1) in
     let c = cipher_at ciphers left in let d = cipher_at ciphers right in
@@ -155,7 +135,7 @@ node_holds p threshold keys s nodes values inputs k given bounds ciphers plains 
       fits = record { c0 = difference_poly p.q p.n c.c0 d.c0 h; c1 = difference_poly p.q p.n c.c1 d.c1 h };
       named = λ v e. cc;
     }
-node_holds p threshold keys s nodes values inputs k given bounds ciphers plains (Neg of) h ht ready each at stands turn full few =
+node_holds p threshold keys s nodes values inputs k given bounds ciphers plains (Neg of) h ht owned secret ready each within at stands few =
     let one = each of (ltb-true of k stands) in
     let c = cipher_at ciphers of in
     record {
@@ -164,7 +144,14 @@ node_holds p threshold keys s nodes values inputs k given bounds ciphers plains 
       fits = record { c0 = negative_poly p.q p.n c.c0 h; c1 = negative_poly p.q p.n c.c1 h };
       named = λ v e. cc;
     }
-node_holds p threshold keys s nodes values inputs k given bounds ciphers plains (Mul left right) h ht ready each at stands turn full few =
+node_holds p threshold keys s nodes values inputs k given bounds ciphers plains (Mul left right) h ht owned secret ready each within at stands few =
     let both = both_pass (ltb left k) (ltb right k) stands in
-    product_holds p threshold keys s nodes k left right bounds ciphers plains h ht each (ltb-true left k both.0) (ltb-true right k both.1) full at
-node_holds p threshold keys s nodes values inputs k given bounds ciphers plains (Rot g of) h ht ready each at stands turn full few = cc
+    elim (cases_Bool (is_full nodes (Mul left right))) [
+      | inl full ↦ full_holds p threshold keys s nodes k left right bounds ciphers plains h ht owned secret each within (ltb-true left k both.0) (ltb-true right k both.1) full at
+      | inr full ↦ product_holds p threshold keys s nodes k left right bounds ciphers plains h ht each (ltb-true left k both.0) (ltb-true right k both.1) full at
+    ]
+node_holds p threshold keys s nodes values inputs k given bounds ciphers plains (Rot g of) h ht owned secret ready each within at stands few =
+    let place = both_pass (nat_eq (g % 2) 1 && nat_le 3 g && nat_lt g (2 * p.n)) (nat_lt of k) stands in
+    let most = both_pass (nat_eq (g % 2) 1 && nat_le 3 g) (nat_lt g (2 * p.n)) place.0 in
+    let odd = both_pass (nat_eq (g % 2) 1) (nat_le 3 g) most.0 in
+    rotation_holds p threshold keys s nodes k g of bounds ciphers plains h ht owned each (ltb-true of k place.1) (eqb-true (g % 2) 1 odd.0) at

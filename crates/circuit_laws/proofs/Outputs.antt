@@ -1,25 +1,21 @@
--- The output of an admitted circuit that needs no key switch carries its plain value.
-use Rattle.std.proofs.Common.{◌-◌, ◌<◌, [], length, refl, arith}
+-- The output of an admitted circuit carries its plain value.
+use Rattle.std.proofs.Common.{◌-◌, length}
 use Rattle.circuit_form.specs.Values.{plain_value}
-use Rattle.circuit_form.proofs.Standing.{is_circuit}
 use Rattle.noise_ledger.specs.Bounds.{numbers_for, output_bound}
 use Rattle.noise_ledger.specs.Ledger.{bound_at, node_bounds, place_bound}
-use Rattle.noise_ledger.proofs.Admitted.{is_admitted}
 use Rattle.cipher_spec.specs.Ciphers.{output_cipher}
 use Rattle.circuit_laws.specs.Carrying.{OutputsCarry}
-use Rattle.circuit_laws.proofs.Walks.{walks, walked_none}
+use Rattle.circuit_laws.proofs.Within.{outputs_keep_the_bound, admitted_ones_keep_the_limit}
 
 pub outputs_carry : OutputsCarry
-unfolding output_cipher plain_value node_bounds place_bound output_bound
-outputs_carry p threshold keys s nodes values inputs legal free admitted secret ready =
-    let h : 0 < p.q = omega (arith, p.modulus) in
-    let ht : 0 < p.t = omega (arith, p.plain_modulus) in
-    let all = walks p threshold keys s nodes values inputs [] nodes 0 [] [] [] h ht legal free ready refl (omega arith) (walked_none p s nodes) in
+unfolding output_cipher plain_value place_bound output_bound
+outputs_carry p threshold keys s nodes values inputs legal admitted owned secret ready =
     let last = length nodes - 1 in
-    let here = all.each last (omega (arith, (is_circuit p.n p.t p.parties nodes legal).some)) in
+    let all = admitted_ones_keep_the_limit p threshold nodes admitted in
+    let here = outputs_keep_the_bound p threshold keys s nodes values inputs legal (λ some j l. all.0 j) owned secret ready in
     record {
       noise = bound_at (node_bounds (numbers_for p threshold) nodes) last;
-      within = (is_admitted (numbers_for p threshold) nodes admitted).output_within;
+      within = all.1;
       carries = here.carries;
       plain = here.plain;
       fits = here.fits;

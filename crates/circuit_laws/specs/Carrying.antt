@@ -1,5 +1,5 @@
 -- What the output of a circuit carries.
-use Rattle.std.specs.Prelude.{◌≡◌, ℕ, ◌+◌, ◌*◌, ◌<◌, ◌≤◌, true, List, [], length, slice_index_or, All, None}
+use Rattle.std.specs.Prelude.{◌≡◌, ℕ, ◌+◌, ◌*◌, ◌<◌, ◌≤◌, List, [], length, slice_index_or, All, None}
 use Rattle.ring_spec.specs.Ring.{IsPoly}
 use Rattle.ring_spec.specs.Pairs.{Cipher, CipherFits}
 use Rattle.bfv_spec.specs.Scheme.{Carries}
@@ -11,7 +11,8 @@ use Rattle.param_set.specs.Numbers.{numbers_of}
 use Rattle.noise_ledger.specs.Bounds.{numbers_for, limit, input_bound}
 use Rattle.noise_ledger.specs.Ledger.{first_over}
 use Rattle.cipher_spec.specs.Keys.{Keys}
-use Rattle.cipher_spec.specs.Ciphers.{is_switch_free, cipher_at, output_cipher}
+use Rattle.cipher_spec.specs.Ciphers.{cipher_at, output_cipher}
+use Rattle.circuit_laws.specs.Switches.{AreKeysFor}
 
 -- ciphertexts of a circuit's inputs, each of which carries its value under the secret s within the bound of an
 -- input, where the ledger is asked with the given T
@@ -30,10 +31,10 @@ pub record Opens (p : Params) (threshold : ℕ) (s : List ℕ) (c : Cipher) (m :
   pub plain : IsPoly p.t p.n m
   pub fits : CipherFits p.q p.n c
 
--- the output of an admitted circuit that needs no key switch carries its plain value, whatever the keys
+-- the output of an admitted circuit carries its plain value, by any keys for it
 abbrev pub OutputsCarry : Type 0
 OutputsCarry =
     (p : Params) (threshold : ℕ) (keys : Keys) (s : List ℕ) (nodes : List Node) (values : List (List ℕ)) (inputs : List Cipher)
-    → first_fault p.n p.t p.parties nodes ≡ None → is_switch_free nodes ≡ true → first_over (numbers_for p threshold) nodes ≡ None
-    → IsPoly p.q p.n s → AreInputs p threshold s nodes values inputs
+    → first_fault p.n p.t p.parties nodes ≡ None → first_over (numbers_for p threshold) nodes ≡ None
+    → AreKeysFor p threshold s nodes keys → IsPoly p.q p.n s → AreInputs p threshold s nodes values inputs
     → Opens p threshold s (output_cipher (numbers_of p) keys inputs nodes) (plain_value p.n p.t values nodes)

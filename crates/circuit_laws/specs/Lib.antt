@@ -1,3 +1,4 @@
+pub mod Switches
 pub mod Carrying
 pub mod Nodes
 pub mod SwitchFree

@@ -27,7 +27,7 @@ unfolding plan_of
 admitted_plan p nodes e = not_over p nodes (first_over p nodes) e
 
 -- circuit c of the rules is that of the setting
-plan_at : (w : Setting) (c : ℕ) → c < length w.offers → plan (rules w) c ≡ plan_of w.numbers (nodes_at w c)
+pub plan_at : (w : Setting) (c : ℕ) → c < length w.offers → plan (rules w) c ≡ plan_of w.numbers (nodes_at w c)
 plan_at w c l =
     ap (λ (z : List Plan). get_or z c no_plan) (rules_plans w)
     ∙ get_or-map (plan_of w.numbers) (map nodes_of w.offers) c [] no_plan (omega (arith, length-map w.offers nodes_of))
