@@ -1,6 +1,6 @@
 -- The log of a script's session is its serial history, and it has room for that: where the run stops, its log
 -- isn't full.
-use Rattle.std.proofs.Common.{◌≡◌, ◌∙◌, sym, ap, subst, ℕ, ◌<◌, ◌≤◌, inl, inr, List, [], length, arith}
+use Rattle.std.proofs.Common.{◌≡◌, ◌∙◌, sym, ap, subst, ℕ, ◌<◌, ◌≤◌, inl, inr, List, [], ◌++◌, length, append-nil, arith}
 use Rattle.session_rules.specs.declared.call.Call.{Call}
 use Rattle.session_rules.specs.declared.call.Entry.{Entry}
 use Rattle.session_rules.specs.declared.fixed.Fixed.{Fixed}
@@ -70,7 +70,8 @@ full_from : (a : Asked) (now : List Entry) → IsAccepted a → IsLegal (rules_a
     → Halted most_calls Spent (AreFewSerial (rules_asked a) a.present a.lanes (state_after (rules_asked a) [])) [] now → ⊥
 full_from a now accepted legal h =
     let f = rules_asked a in
-    let same : now ≡ h.made = h.log in
+    let none : h.back ≡ [] = elim h.gives_back [ inl e ↦ e | inr gave ↦ let never = gave.short in cc ] in
+    let same : now ≡ h.made = h.log ∙ ap (λ (z : List Entry). h.made ++ z) none ∙ append-nil h.made in
     let stops = stops_from f a.present a.lanes h.made h.next h.are in
     let few = course_stops_short f a.present a.lanes h.made h.next (whole a) (subst (λ (z : List Entry). IsLegal f z) same legal) h.alone stops in
     let most : most_of_course f a.present a.lanes < 8388608 = short a accepted in

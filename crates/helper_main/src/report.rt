@@ -2,7 +2,8 @@ ghost use Rattle.std.specs.Prelude.{◌≡◌, true, [], IfOk};
 ghost use Rattle.session_script.specs.Scripts.{asked};
 ghost use Rattle.session_script.specs.Kept.{IsAccepted};
 ghost use Rattle.session_state.specs.Standings.{setting};
-ghost use Rattle.run_report.specs.Reports.{setting_asked};
+ghost use Rattle.run_report.specs.Reports.{setting_asked, seeds_asked};
+ghost use Rattle.run_report.specs.Told.{seeds_of};
 ghost use Rattle.headline.specs.History.{most_calls, history, are_free};
 ghost use Rattle.helper_main.specs.Runs.{serial_report};
 
@@ -41,7 +42,8 @@ fn run(alloc: Global, ring: &Arc<Ring>, script: &Script) -> Result<Session<SeedR
     requires free { are_free script.now.circuits ≡ true }
     requires accepted { IsAccepted (asked script.now) }
     ensures setting { IfOk result (λ s. setting s.standing ≡ setting_asked (asked script.now)) }
-    ensures master { IfOk result (λ s. s.roll.master ≡ script.now.master) }
+    ensures seeds { IfOk result (λ s. seeds_of s.standing s.roll.master
+        ≡ seeds_asked (asked script.now)) }
     ensures log { IfOk result (λ s. s.log.items ≡ history (asked script.now)) }
 {
     let roll = SeedRoll::new(script.master);

@@ -8,12 +8,10 @@ use Rattle.bfv_spec.specs.Drawn.{drawn_encryption}
 use Rattle.circuit_form.specs.declared.node.Node.{Node}
 use Rattle.circuit_form.specs.Circuits.{owners}
 use Rattle.param_set.specs.Numbers.{Numbers, numbers_of}
-use Rattle.cipher_spec.specs.Keys.{Keys, no_keys}
+use Rattle.cipher_spec.specs.Keys.{no_keys}
 use Rattle.cipher_spec.specs.Ciphers.{is_switch_free, output_cipher}
 use Rattle.circuit_laws.proofs.SwitchFree.{keys_are_not_used}
 use Rattle.std.specs.Option.{IfSome}
-use Rattle.std.specs.declared.alloc.Global.{Global}
-use Rattle.std.specs.declared.sync.Arc.{Arc}
 use Rattle.ring_spec.specs.Pairs.{Key}
 use Rattle.proto_names.specs.Names.{rows_of}
 use Rattle.proto_names.specs.Instances.{instance}
@@ -23,14 +21,10 @@ use Rattle.proto_names.specs.declared.sets.PartySet.{PartySet}
 use Rattle.proto_names.specs.declared.instance.Instance.{Instance}
 use Rattle.proto_names.specs.declared.instance.Stage.{Stage}
 use Rattle.proto_names.specs.declared.instance.Stage.TheVariants.{Opened, Complete, Void}
-use Rattle.instance_table.specs.declared.brief.Brief.{Brief}
 use Rattle.param_set.specs.declared.params.Params.{Params}
 use Rattle.share_spec.specs.Seeds.{seed_in}
-use Rattle.proto_names.specs.Roles.{Role, role_of}
-use Rattle.instance_table.specs.Tables.{brief_role}
-use Rattle.party_roll.specs.Briefs.{is_made, IsBrief}
+use Rattle.party_roll.specs.Briefs.{is_made}
 use Rattle.session_rules.specs.declared.call.Call.TheVariants as call
-use Rattle.session_rules.specs.declared.reply.Reply.{Reply}
 use Rattle.session_rules.specs.declared.reply.Reply.TheVariants as reply
 use Rattle.session_rules.specs.declared.fixed.Fixed.{Fixed}
 use Rattle.session_rules.specs.States.{State, plan, no_plan}
@@ -38,22 +32,12 @@ use Rattle.session_rules.specs.Steps.{judge, step, brief, told}
 use Rattle.session_rules.specs.declared.fixed.Plan.{Plan}
 use Rattle.session_rules.specs.Fixing.{plan_of}
 use Rattle.session_rules.specs.Tasks.{briefed}
-use Rattle.session_rules.specs.Facts.{IsLive, Kept}
-use Rattle.session_rules.specs.declared.call.Entry.{Entry}
-use Rattle.session_rules.specs.Histories.{state_after}
-use Rattle.session_rules.proofs.Keeps.{histories_keep}
+use Rattle.session_rules.specs.Facts.{IsLive}
 use Rattle.session_laws.proofs.Plans.{rules_plans, rules_number}
-use Rattle.session_rules.proofs.Marks.{instance_id}
 use Rattle.session_spec.specs.Settings.{Setting, nodes_of, no_offer, nodes_at, value_at, owner_at}
-use Rattle.session_spec.specs.Shares.{share_rows}
-use Rattle.session_spec.specs.Outputs.{key_in, keys_in, polys_of, share_of, input_of, inputs_of, output_of}
-use Rattle.session_spec.specs.Stores.{Store}
+use Rattle.session_spec.specs.Outputs.{key_in, keys_in, input_of, inputs_of, output_of}
 use Rattle.session_spec.specs.Settings.{rules}
 use Rattle.lane_workers.specs.Acting.{Owns}
-use Rattle.session_state.specs.Handed.{IsBriefOf, brief_reply}
-use Rattle.session_state.specs.declared.handed.Briefing.{Briefing}
-use Rattle.session_core.specs.Sessions.{Known}
-use Rattle.session_core.specs.Handing.{HandsBrief}
 
 -- ---- shares
 
@@ -80,10 +64,6 @@ pub is_told : (s : State) (id : ℕ) (σ : Signature) (set : PartySet) → brief
 unfolding brief
 is_told s id σ set e = told_by s id (instance s.instances id) σ set refl e
 
-pub told_there : (f : Fixed) (s : State) (id : ℕ) (σ : Signature) (set : PartySet) → (step f s 0 (call.Brief id)).0 ≡ reply.Brief σ set → IsTold s id σ set
-unfolding step judge
-told_there f s id σ set e = is_told s id σ set e
-
 -- where no brief comes there is none
 void_or_not : (i : Instance) (stage : Stage) → i.stage ≡ stage → (IsLive i → ⊥) → briefed (told i stage) ≡ None
 unfolding told
@@ -99,50 +79,6 @@ silent_by s id (Some i) e never = void_or_not i i.stage refl (never i e)
 pub silent : (f : Fixed) (s : State) (id : ℕ) → ((i : Instance) → instance s.instances id ≡ Some i → IsLive i → ⊥) → briefed (step f s 0 (call.Brief id)).0 ≡ None
 unfolding step judge brief
 silent f s id never = silent_by s id (instance s.instances id) refl never
-
--- the role that a brief tells is its instance's
-role_is : (params : Params) (h : Store) (i : Instance) (b : Brief) → IsBriefOf params h i b → brief_role b ≡ role_of i
-role_is params h i b t = rw (t.signature, t.id, t.set, t.round1, t.group) refl
-
--- a share that an honest party makes by its brief is the honest one of the instance
-pub share_made : (w : Setting) (seeds : List (List ℕ)) (keys : ℕ → Keys) (params : Params) (h : Store) (i : Instance) (b : Brief) (p : ℕ) (rows : List (List ℕ)) → IsBriefOf params h i b
-    → b.polys ≡ polys_of w seeds keys (brief_role b) → rows ≡ share_rows w seeds (brief_role b) b.polys p → rows ≡ share_of w seeds keys i p
-unfolding share_of
-share_made w seeds keys params h i b p rows t polys made =
-    let is = role_is params h i b t in
-    made ∙ ap (λ (role : Role). share_rows w seeds role b.polys p) is
-    ∙ ap (λ (all : List (List ℕ)). share_rows w seeds (role_of i) all p) (polys ∙ ap (λ (role : Role). polys_of w seeds keys role) is)
-
--- the brief of an instance has its number
-pub brief_number : (f : Fixed) (log : List Entry) (id : ℕ) (s : State) (params : Params) (h : Store) (b : Brief) (r : Reply) → s ≡ state_after f log
-    → r ≡ (step f (state_after f log) 0 (call.Brief id)).0 → r ≡ brief_reply b → ((i : Instance) → instance s.instances id ≡ Some i → IsBriefOf params h i b) → b.id ≡ id
-unfolding step judge
-brief_number f log id s params h b r same e goes its =
-    let t = state_after f log in
-    let x = is_told t id b.signature b.set (sym e ∙ goes) in
-    let found : instance s.instances id ≡ Some x.item = subst (λ (z : State). instance z.instances id ≡ Some x.item) (sym same) x.found in
-    let k : Kept f t = histories_keep f log in
-    (its x.item found).id ∙ instance_id t.instances id x.item k.numbered x.found
-
--- what a pointer that is there points at
-pub at_arc : (P : Brief → Type 0) (o : Option (Arc Brief Global)) (x : Arc Brief Global) (b : Brief) → o ≡ Some x → b ≡ x.value → IfSome o (λ z. P z.value) → P b
-at_arc P None x b e v h = cc
-at_arc P (Some y) x b e v h = let same : y ≡ x = cc in subst P (ap (λ (z : Arc Brief Global). z.value) same ∙ sym v) h
-
--- a brief that is handed out
-pub record IsBriefed (k : Known) (s : State) (h : Store) (id : ℕ) (r : Reply) (a : Brief) : Type 0 where
-  pub told : (i : Instance) → instance s.instances id ≡ Some i → IsBriefOf k.params h i a
-  pub goes : r ≡ brief_reply a
-  pub made : IsBrief k.params a
-  pub honest : k.tells ≡ true → a.polys ≡ polys_of k.setting k.seeds (keys_in k.setting k.seeds s.instances) (brief_role a)
-
-pub handed : (k : Known) (s : State) (h : Store) (id : ℕ) (b : Briefing) (arc : Arc Brief Global) (a : Brief) → HandsBrief id k s h b → b.brief ≡ Some arc → a ≡ arc.value → IsBriefed k s h id b.reply a
-handed k s h id b arc a x is v = record {
-  told = at_arc (λ z. (i : Instance) → instance s.instances id ≡ Some i → IsBriefOf k.params h i z) b.brief arc a is v x.told;
-  goes = at_arc (λ z. b.reply ≡ brief_reply z) b.brief arc a is v x.goes;
-  made = at_arc (λ z. IsBrief k.params z) b.brief arc a is v x.made;
-  honest = λ t. at_arc (λ z. z.polys ≡ polys_of k.setting k.seeds (keys_in k.setting k.seeds s.instances) (brief_role z)) b.brief arc a is v (x.honest t);
-}
 
 -- ---- outputs and inputs
 

@@ -1,10 +1,16 @@
+pub mod Logs
 pub mod Doing
+pub mod Stays
+pub mod Acts
+pub mod Giving
+pub mod Finishing
+pub mod Idling
 pub mod Going
 pub mod Quiet
 pub mod Lines
-pub mod Holds
 pub mod Asking
 pub mod Settled
 pub mod Bringing
 pub mod Owing
 pub mod Present
+pub mod Desks

@@ -4,13 +4,15 @@ use Rattle.std.specs.Prelude.{if◌then◌else◌}
 use Rattle.std.specs.List.{range_with_len, flat_map}
 use Rattle.std.specs.Option.{option_map}
 use Rattle.std.proofs.lemmas.Bool.{and_parts, and_from, eqb-true, lt-ltb}
-use Rattle.std.proofs.lemmas.List.{append_assoc}
 use Rattle.std.proofs.lemmas.List.Elements.{All-nil, All-append, All-map, All-weaker, All-contains_itself}
-use Rattle.ring_spec.specs.Pairs.{Key}
+use Rattle.std.specs.declared.alloc.Global.{Global}
+use Rattle.std.specs.declared.sync.Arc.{Arc}
+use Rattle.ring_spec.specs.Pairs.{Key, KeyFits}
 use Rattle.share_spec.specs.Sets.{has}
 use Rattle.proto_names.specs.Instances.{owed_shares, is_done}
 use Rattle.proto_names.specs.declared.signature.Signature.TheVariants.{Pk}
 use Rattle.proto_names.specs.declared.instance.Instance.{Instance}
+use Rattle.session_rules.specs.declared.call.Call.{Call}
 use Rattle.session_rules.specs.declared.call.Call.TheVariants as call
 use Rattle.session_rules.specs.declared.call.Entry.{Entry}
 use Rattle.session_rules.specs.declared.reply.Reply.TheVariants as reply
@@ -18,6 +20,7 @@ use Rattle.session_rules.specs.declared.fixed.Fixed.{Fixed}
 use Rattle.session_rules.specs.States.{State, opening, plan, is_admitted, is_given, has_done}
 use Rattle.session_rules.specs.Steps.{judge, step, pending, place, is_input, lacks_input, owed_of, owed_inputs}
 use Rattle.session_rules.specs.Histories.{after, state_after}
+use Rattle.session_rules.specs.Tasks.{entry}
 use Rattle.session_rules.proofs.Contained.{contains_filter_from, range_within, none_from_find}
 use Rattle.session_rules.proofs.Deliveries.{keys_stay}
 use Rattle.session_rules.proofs.Keeps.{after_next, histories_keep}
@@ -27,7 +30,11 @@ use Rattle.session_spec.specs.Outputs.{done_instance, key_instance, key_in}
 use Rattle.session_spec.specs.Stores.{Store, held_key, key_by}
 use Rattle.session_rules.proofs.Issued.{done_here}
 use Rattle.session_laws.proofs.Keys.{found_is, key_stays}
-use Rattle.lane_workers.specs.Acting.{Owns, OwnsPlace}
+use Rattle.session_state.specs.declared.handed.Listing.{Listing}
+use Rattle.session_core.specs.Sessions.{Known}
+use Rattle.lane_workers.specs.Acting.{Owns, OwnsPlace, IsKey}
+use Rattle.lane_workers.specs.Desks.{Fixture, View, Answered, ShowsKey, behind, known_of, rules_of, state_seen}
+use Rattle.lane_workers.proofs.Bringing.{at_some}
 
 -- ---- its own
 
@@ -66,22 +73,12 @@ pub owed_own : (w : Setting) (s : State) (p : ℕ) → All (OwnsPlace w p) (owed
 unfolding owed_inputs
 owed_own w s p = own_all w s p (has_done Pk s.instances)
 
--- ---- without a key there are none
+-- ---- a key is told exactly where one is complete
 
-key_done : (is : List Instance) (w : Setting) (h : Store) (o : Option Instance) → key_instance is ≡ o → option_map (key_by w h) o ≡ None → has_done Pk is ≡ false
+pub key_done : (is : List Instance) (w : Setting) (h : Store) (o : Option Instance) → key_instance is ≡ o → option_map (key_by w h) o ≡ None → has_done Pk is ≡ false
 unfolding done_instance has_done
 key_done is w h None e n = none_from_find (is_done Pk) is e
 key_done is w h (Some i) e n = cc
-
-no_inputs_yet : (f : Fixed) (s : State) (p : ℕ) → has_done Pk s.instances ≡ false → owed_inputs f s p ≡ []
-unfolding owed_inputs
-no_inputs_yet f s p e = rw e refl
-
-pub no_inputs : (w : Setting) (h : Store) (f : Fixed) (s : State) (p : ℕ) → held_key w h s.instances ≡ None → owed_inputs f s p ≡ []
-unfolding held_key
-no_inputs w h f s p e = no_inputs_yet f s p (key_done s.instances w h (key_instance s.instances) refl e)
-
--- ---- where there is one it stays while shares are given
 
 some_key : (is : List Instance) (w : Setting) (h : Store) (key : Key) (o : Option Instance) → key_instance is ≡ o → option_map (key_by w h) o ≡ Some key → has_done Pk is ≡ true
 some_key is w h key None e k = cc
@@ -91,8 +88,16 @@ pub held_done : (w : Setting) (h : Store) (is : List Instance) (key : Key) → h
 unfolding held_key
 held_done w h is key e = some_key is w h key (key_instance is) refl e
 
+-- ---- without a key no input is owed
+
+none_yet : (f : Fixed) (s : State) (p : ℕ) → has_done Pk s.instances ≡ false → owed_inputs f s p ≡ []
+unfolding owed_inputs
+none_yet f s p e = rw e refl
+
+-- ---- where there is one it stays
+
 -- what is called behind a history leaves the public key, if there was one
-pub key_after : (w : Setting) (seeds : List (List ℕ)) (log later es : List Entry) → later ≡ log ++ es → has_done Pk (state_after (rules w) log).instances ≡ true
+key_after : (w : Setting) (seeds : List (List ℕ)) (log later es : List Entry) → later ≡ log ++ es → has_done Pk (state_after (rules w) log).instances ≡ true
     → key_in w seeds (state_after (rules w) log).instances ≡ key_in w seeds (state_after (rules w) later).instances
 key_after w seeds log later es e done =
     let f = rules w in
@@ -101,26 +106,41 @@ key_after w seeds log later es e done =
     key_stays w seeds s (after f s es) on.0 on.1 done
     ∙ ap (λ (z : State). key_in w seeds z.instances) (sym (after_append f (opening f) log es)) ∙ ap (λ (z : List Entry). key_in w seeds (state_after f z).instances) (sym e)
 
-pub key_later : (w v : Setting) (seeds : List (List ℕ)) (s t : State) (log later es : List Entry) → v ≡ w → s ≡ state_after (rules w) log → t ≡ state_after (rules v) later → later ≡ log ++ es
-    → has_done Pk s.instances ≡ true → key_in w seeds s.instances ≡ key_in w seeds t.instances
-key_later w v seeds s t log later es same was now e done =
-    ap (λ (z : State). key_in w seeds z.instances) was
-    ∙ key_after w seeds log later es e (subst (λ (z : State). has_done Pk z.instances ≡ true) was done)
-    ∙ ap (λ (z : Setting). key_in w seeds (state_after (rules z) later).instances) (sym same) ∙ ap (λ (z : State). key_in w seeds z.instances) (sym now)
-
 -- and there still is one
-pub done_later : (w v : Setting) (s t : State) (log later es : List Entry) → v ≡ w → s ≡ state_after (rules w) log → t ≡ state_after (rules v) later → later ≡ log ++ es
-    → has_done Pk s.instances ≡ true → has_done Pk t.instances ≡ true
-done_later w v s t log later es same was now e done =
+done_after : (w : Setting) (log later es : List Entry) → later ≡ log ++ es → has_done Pk (state_after (rules w) log).instances ≡ true → has_done Pk (state_after (rules w) later).instances ≡ true
+done_after w log later es e done =
     let f = rules w in
-    let start = state_after f log in
-    let on = after_next f start es (histories_keep f log) in
-    let there = keys_stay start (after f start es) Pk on.1 (λ x. cc) (subst (λ (z : State). has_done Pk z.instances ≡ true) was done) in
-    let is : t ≡ after f start es = now ∙ ap (λ (z : Setting). state_after (rules z) later) same ∙ ap (state_after f) e ∙ after_append f (opening f) log es in
-    subst (λ (z : State). has_done Pk z.instances ≡ true) (sym is) there
+    let s = state_after f log in
+    let on = after_next f s es (histories_keep f log) in
+    let there = keys_stay s (after f s es) Pk on.1 (λ x. cc) done in
+    subst (λ (z : State). has_done Pk z.instances ≡ true) (sym (ap (state_after f) e ∙ after_append f (opening f) log es)) there
 
-pub two_more : (a b c es fs : List Entry) → b ≡ a ++ es → c ≡ b ++ fs → c ≡ a ++ (es ++ fs)
-two_more a b c es fs x y = y ∙ ap (λ (z : List Entry). z ++ fs) x ∙ append_assoc a es fs
+-- a key under which inputs may be encrypted is one later
+key_later : (k : Known) (es later more : List Entry) (key : Key) → later ≡ es ++ more → IsKey k (behind k es) key → IsKey k (behind k later) key
+key_later k es later more key e x = record {
+  complete = done_after k.setting es later more e x.complete;
+  fits = x.fits;
+  honest = λ t. x.honest t ∙ key_after k.setting k.seeds es later more e x.complete;
+}
+
+pub key_on : (v w : View) (more : List Entry) (key : Key) → w.fixed ≡ v.fixed → w.seen ≡ v.seen ++ more → IsKey (known_of v) (state_seen v) key → IsKey (known_of w) (state_seen w) key
+key_on v w more key same seen x =
+    subst (λ (z : Fixture). IsKey z.known (behind z.known w.seen) key) (sym same) (key_later (known_of v) v.seen w.seen more key seen x)
+
+-- what is handed out with a listing is such a key
+pub key_handed : (v w : View) (c : Call) (x : Listing) (a : Arc Key Global) (key : Key) → w.fixed ≡ v.fixed → Answered v w c x.reply ShowsKey x → x.key ≡ Some a → key ≡ a.value
+    → IsKey (known_of w) (state_seen w) key
+key_handed v w c x a key same y is e =
+    let k = known_of v in
+    let asked = v.seen ++ y.others in
+    let h = y.hands in
+    let there : IsKey k (behind k asked) a.value = record {
+      complete = at_some (λ (z : Arc Key Global). has_done Pk (behind k asked).instances ≡ true) x.key a is h.complete;
+      fits = at_some (λ (z : Arc Key Global). KeyFits k.params.q k.params.n z.value) x.key a is h.fits;
+      honest = λ t. at_some (λ (z : Arc Key Global). z.value ≡ key_in k.setting k.seeds (behind k asked).instances) x.key a is (h.honest t);
+    } in
+    let later = key_later k asked w.seen (entry v.fixed.caller c x.reply ∷ []) a.value y.seen there in
+    subst (λ (z : Fixture). IsKey z.known (behind z.known w.seen) key) (sym same) (subst (λ (z : Key). IsKey k (behind k w.seen) z) (sym e) later)
 
 -- ---- the listing
 
@@ -129,6 +149,21 @@ listed_then : (f : Fixed) (s : State) (p : ℕ) (b : Bool) (ids : List ℕ) (pla
 listed_then f s p true ids places e = cc
 listed_then f s p false ids places e = cc
 
-pub listed_inputs : (f : Fixed) (s : State) (who p : ℕ) (ids : List ℕ) (places : List (ℕ × ℕ)) → (step f s who (call.Pending p)).0 ≡ reply.List ids places → places ≡ owed_inputs f s p
+listed_inputs : (f : Fixed) (s : State) (who p : ℕ) (ids : List ℕ) (places : List (ℕ × ℕ)) → (step f s who (call.Pending p)).0 ≡ reply.List ids places → places ≡ owed_inputs f s p
 unfolding step judge pending
 listed_inputs f s who p ids places e = listed_then f s p (has s.present p) ids places e
+
+-- the inputs that a listing tells are its party's own
+pub own_listed : (v w : View) (p : ℕ) (x : Listing) (ids : List ℕ) (places : List (ℕ × ℕ)) → Answered v w (call.Pending p) x.reply ShowsKey x → x.reply ≡ reply.List ids places
+    → All (OwnsPlace (known_of v).setting p) places
+own_listed v w p x ids places y is =
+    let k = known_of v in
+    let s = behind k (v.seen ++ y.others) in
+    subst (λ (z : List (ℕ × ℕ)). All (OwnsPlace k.setting p) z) (sym (listed_inputs (rules_of v) s v.fixed.caller p ids places (sym y.reply ∙ is))) (owed_own k.setting s p)
+
+-- and none where no key is handed out
+pub none_listed : (v w : View) (p : ℕ) (x : Listing) (ids : List ℕ) (places : List (ℕ × ℕ)) → Answered v w (call.Pending p) x.reply ShowsKey x → x.reply ≡ reply.List ids places → x.key ≡ None
+    → places ≡ []
+none_listed v w p x ids places y is none =
+    let s = behind (known_of v) (v.seen ++ y.others) in
+    listed_inputs (rules_of v) s v.fixed.caller p ids places (sym y.reply ∙ is) ∙ none_yet (rules_of v) s p (y.hands.none none)

@@ -25,9 +25,12 @@ use Rattle.session_laws.proofs.Plans.{rules_threshold}
 use Rattle.session_spec.specs.Settings.{rules}
 use Rattle.session_core.specs.declared.session.Session.{Session}
 use Rattle.session_core.specs.declared.stop.Stop.{Stop}
-use Rattle.session_core.specs.Calls.{About, about, known, state_of}
+use Rattle.session_core.specs.Sessions.{Known}
+use Rattle.session_core.specs.Calls.{known, state_of}
+use Rattle.lane_workers.specs.Desks.{session_view}
 use Rattle.lane_workers.specs.Doing.{Acted, Halted, AreRounds, AreFewRounds, AreSerial, AreFewSerial, Did, BrokeOff, Followed, Settled, StoppedSettling, Served, StoppedServing, rules_for, state_behind}
-use Rattle.lane_workers.proofs.Doing.{acted_more, acted_so, halted_more, halted_so}
+use Rattle.lane_workers.proofs.Logs.{acted_more, acted_so, halted_more, halted_so}
+use Rattle.lane_workers.proofs.Acts.{as_acted, as_halted}
 
 -- ---- states
 
@@ -86,37 +89,38 @@ alone_settles : (f : Fixed) (before now : List Entry) → IsLegal f now → (x :
 alone_settles f before now legal x = record { legal = subst (λ (z : List Entry). IsLegal f z) x.log legal; alone = x.alone; settles = x.are.settles }
 
 module _ {R : Type 0} {K : Ghosts R} where
-  pub rules_are : (a b : Session R K) → about b ≡ about a → rules_for b ≡ rules_for a
-  rules_are a b e = ap (λ (z : About R). rules z.known.setting) e
+  pub rules_are : (a b : Session R K) → known b ≡ known a → rules_for b ≡ rules_for a
+  rules_are a b e = ap (λ (z : Known). rules z.setting) e
 
-  most_is : (a b : Session R K) → about b ≡ about a → (known b).most ≡ (known a).most
-  most_is a b e = ap (λ (z : About R). z.known.most) e
+  most_is : (a b : Session R K) → known b ≡ known a → (known b).most ≡ (known a).most
+  most_is a b e = ap (λ (z : Known). z.most) e
 
   -- ---- rounds
 
   -- the state of a session after some calls
-  pub state_now : (old mid : Session R K) (es : List Entry) → about mid ≡ about old → state_of mid ≡ state_behind mid → mid.log.items ≡ old.log.items ++ es → state_of mid ≡ after (rules_for old) (state_behind old) es
+  pub state_now : (old mid : Session R K) (es : List Entry) → known mid ≡ known old → state_of mid ≡ state_behind mid → mid.log.items ≡ old.log.items ++ es → state_of mid ≡ after (rules_for old) (state_behind old) es
   state_now old mid es same is e = is ∙ behind_is (rules_for old) (rules_for mid) old.log.items mid.log.items es (rules_are old mid same) e
 
-  pub round_on : (n m : ℕ) (old mid new : Session R K) → n ≡ suc m → about mid ≡ about old → state_of mid ≡ state_behind mid → is_settled (state_of mid) ≡ false
-      → Acted (SoFar n (rules_for old) (state_behind old)) old.log.items mid.log.items → Did (round_tasks (state_of mid)) mid new → Acted (SoFar m (rules_for old) (state_behind old)) old.log.items new.log.items
+  pub round_on : (n m : ℕ) (old mid new : Session R K) → n ≡ suc m → known mid ≡ known old → state_of mid ≡ state_behind mid → is_settled (state_of mid) ≡ false
+      → Acted (SoFar n (rules_for old) (state_behind old)) old.log.items mid.log.items → Did (round_tasks (state_of mid)) (session_view mid) (session_view new) → Acted (SoFar m (rules_for old) (state_behind old)) old.log.items new.log.items
   round_on n m old mid new count same is undone x y =
       let f = rules_for old in
       let s = state_behind old in
-      acted_more (SoFar n f s) (Leaves (rules_for mid).rows (round_tasks (state_of mid)) []) (SoFar m f s) old.log.items mid.log.items new.log.items x y
+      acted_more (SoFar n f s) (Leaves (rules_for mid).rows (round_tasks (state_of mid)) []) (SoFar m f s) old.log.items mid.log.items new.log.items x
+      (as_acted (Leaves (rules_for mid).rows (round_tasks (state_of mid)) []) mid new y)
       (λ a b log before here.
       let now = state_now old mid a same is log in
       one_round m f s a b (subst (λ (k : ℕ). SoFar k f s a) count before) (subst (λ (z : State). is_settled z ≡ false) now undone)
       (follows_so f (rules_for mid) (after f s a) (state_of mid) b (rules_are old mid same) now here))
 
-  pub round_off : (n m : ℕ) (why : Stop) (old mid new : Session R K) → n ≡ suc m → about mid ≡ about old → state_of mid ≡ state_behind mid → is_settled (state_of mid) ≡ false
-      → Acted (SoFar n (rules_for old) (state_behind old)) old.log.items mid.log.items → BrokeOff (round_tasks (state_of mid)) mid new why → StoppedSettling old new why
+  pub round_off : (n m : ℕ) (why : Stop) (old mid new : Session R K) → n ≡ suc m → known mid ≡ known old → state_of mid ≡ state_behind mid → is_settled (state_of mid) ≡ false
+      → Acted (SoFar n (rules_for old) (state_behind old)) old.log.items mid.log.items → BrokeOff (round_tasks (state_of mid)) (session_view mid) (session_view new) why → StoppedSettling old new why
   round_off n m why old mid new count same is undone x y =
       let f = rules_for old in
       let s = state_behind old in
       let Breaks = BreaksOff (rules_for mid).rows (round_tasks (state_of mid)) in
       halted_more (known old).most why (SoFar n f s) Breaks (AreFewRounds f s) old.log.items mid.log.items new.log.items x
-      (subst (λ (k : ℕ). Halted k why Breaks mid.log.items new.log.items) (most_is old mid same) y)
+      (subst (λ (k : ℕ). Halted k why Breaks mid.log.items new.log.items) (most_is old mid same) (as_halted why Breaks mid new y))
       (λ a b next log before here.
       let now = state_now old mid a same is log in
       record {
@@ -124,7 +128,7 @@ module _ {R : Type 0} {K : Ghosts R} where
             (breaks_so f (rules_for mid) (after f s a) (state_of mid) b next (rules_are old mid same) now here);
       })
 
-  pub rounds_over : (n : ℕ) (old mid : Session R K) → about mid ≡ about old → state_of mid ≡ state_behind mid → is_settled (state_of mid) ≡ true
+  pub rounds_over : (n : ℕ) (old mid : Session R K) → known mid ≡ known old → state_of mid ≡ state_behind mid → is_settled (state_of mid) ≡ true
       → Acted (SoFar n (rules_for old) (state_behind old)) old.log.items mid.log.items → Settled old mid
   rounds_over n old mid same is done x =
       let f = rules_for old in
@@ -140,15 +144,20 @@ module _ {R : Type 0} {K : Ghosts R} where
 
   -- ---- after some parties joined and lanes were followed
 
-  pub joined_followed : (present : List ℕ) (lanes : List (List Line)) (old mid new : Session R K) → about mid ≡ about old → Did (map joins present) old mid → Followed (flat_map lane_tasks lanes) mid new
-      → Followed (serial_tasks present lanes) old new
+  -- some have joined, and lanes were followed
+  abbrev pub Readied : List ℕ → List (List Line) → Session R K → Session R K → Type 0
+  Readied present lanes old new = Acted (Follows (rules_for old).rows (serial_tasks present lanes)) old.log.items new.log.items
+
+  pub joined_followed : (present : List ℕ) (lanes : List (List Line)) (old mid new : Session R K) → known mid ≡ known old → Did (map joins present) (session_view old) (session_view mid)
+      → Followed (flat_map lane_tasks lanes) (session_view mid) (session_view new) → Readied present lanes old new
   joined_followed present lanes old mid new same x y =
       let l = (rules_for old).rows in
       let lanes_follow = λ (z : Fixed). Acted (Follows z.rows (lanes_all lanes)) mid.log.items new.log.items in
-      acted_more (Leaves l (map joins present) []) (Follows l (lanes_all lanes)) (Follows l (serial_tasks present lanes)) old.log.items mid.log.items new.log.items x
-      (subst lanes_follow (rules_are old mid same) y) (λ a b _ p q. joined_then l present lanes a b p q)
+      acted_more (Leaves l (map joins present) []) (Follows l (lanes_all lanes)) (Follows l (serial_tasks present lanes)) old.log.items mid.log.items new.log.items
+      (as_acted (Leaves l (map joins present) []) old mid x)
+      (subst lanes_follow (rules_are old mid same) (as_acted (Follows (rules_for mid).rows (lanes_all lanes)) mid new y)) (λ a b _ p q. joined_then l present lanes a b p q)
 
-  pub followed_settled : (present : List ℕ) (lanes : List (List Line)) (old mid new : Session R K) → about mid ≡ about old → Followed (serial_tasks present lanes) old mid → Settled mid new → Served present lanes old new
+  pub followed_settled : (present : List ℕ) (lanes : List (List Line)) (old mid new : Session R K) → known mid ≡ known old → Readied present lanes old mid → Settled mid new → Served present lanes old new
   followed_settled present lanes old mid new same x y =
       let f = rules_for old in
       let s = state_behind old in
@@ -163,23 +172,25 @@ module _ {R : Type 0} {K : Ghosts R} where
         settles = subst (λ (z : State). Settles rounds f 0 z b) now (subst (λ (z : Fixed). Settles rounds z 0 (state_behind mid) b) (rules_are old mid same) settling.settles);
       })
 
-  pub joining_stopped : (present : List ℕ) (lanes : List (List Line)) (why : Stop) (old new : Session R K) → BrokeOff (map joins present) old new why → StoppedServing present lanes old new why
+  pub joining_stopped : (present : List ℕ) (lanes : List (List Line)) (why : Stop) (old new : Session R K) → BrokeOff (map joins present) (session_view old) (session_view new) why → StoppedServing present lanes old new why
   joining_stopped present lanes why old new x =
       let f = rules_for old in
-      halted_so (known old).most why (BreaksOff f.rows (map joins present)) (AreFewSerial f present lanes (state_behind old)) old.log.items new.log.items x
+      halted_so (known old).most why (BreaksOff f.rows (map joins present)) (AreFewSerial f present lanes (state_behind old)) old.log.items new.log.items
+      (as_halted why (BreaksOff f.rows (map joins present)) old new x)
       (λ es next broke. record { begins = inl (joining_breaks f.rows present lanes es next broke) })
 
-  pub lanes_stopped : (present : List ℕ) (lanes : List (List Line)) (why : Stop) (old mid new : Session R K) → about mid ≡ about old → Did (map joins present) old mid → BrokeOff (flat_map lane_tasks lanes) mid new why
+  pub lanes_stopped : (present : List ℕ) (lanes : List (List Line)) (why : Stop) (old mid new : Session R K) → known mid ≡ known old → Did (map joins present) (session_view old) (session_view mid) → BrokeOff (flat_map lane_tasks lanes) (session_view mid) (session_view new) why
       → StoppedServing present lanes old new why
   lanes_stopped present lanes why old mid new same x y =
       let f = rules_for old in
       let Broke = λ (z : Fixed). BreaksOff z.rows (lanes_all lanes) in
-      halted_more (known old).most why (Leaves f.rows (map joins present) []) (Broke f) (AreFewSerial f present lanes (state_behind old)) old.log.items mid.log.items new.log.items x
+      halted_more (known old).most why (Leaves f.rows (map joins present) []) (Broke f) (AreFewSerial f present lanes (state_behind old)) old.log.items mid.log.items new.log.items
+      (as_acted (Leaves f.rows (map joins present) []) old mid x)
       (subst (λ (z : Fixed). Halted (known old).most why (Broke z) mid.log.items new.log.items) (rules_are old mid same)
-      (subst (λ (k : ℕ). Halted k why (Broke (rules_for mid)) mid.log.items new.log.items) (most_is old mid same) y))
+      (subst (λ (k : ℕ). Halted k why (Broke (rules_for mid)) mid.log.items new.log.items) (most_is old mid same) (as_halted why (Broke (rules_for mid)) mid new y)))
       (λ a b next _ p q. record { begins = inl (lanes_break f.rows present lanes a b next p q) })
 
-  pub settling_stopped : (present : List ℕ) (lanes : List (List Line)) (why : Stop) (old mid new : Session R K) → about mid ≡ about old → Followed (serial_tasks present lanes) old mid → StoppedSettling mid new why
+  pub settling_stopped : (present : List ℕ) (lanes : List (List Line)) (why : Stop) (old mid new : Session R K) → known mid ≡ known old → Readied present lanes old mid → StoppedSettling mid new why
       → StoppedServing present lanes old new why
   settling_stopped present lanes why old mid new same x y =
       let f = rules_for old in
@@ -200,7 +211,7 @@ module _ {R : Type 0} {K : Ghosts R} where
     pub none_ready : next_ready (rules_for new) (state_of new) ≡ None
     pub answered : CanSettle (rules_for old) (state_of old) → is_settled (state_of new) ≡ true
 
-  pub rests : (old new : Session R K) → about new ≡ about old → state_of old ≡ state_behind old → state_of new ≡ state_behind new → IsLegal (rules_for new) new.log.items
+  pub rests : (old new : Session R K) → known new ≡ known old → state_of old ≡ state_behind old → state_of new ≡ state_behind new → IsLegal (rules_for new) new.log.items
       → 1 ≤ (known old).params.threshold → Settled old new → Rests old new
   rests old new same was is legal some_ x =
       let f = rules_for old in

@@ -4,12 +4,13 @@ use Rattle.party_roll.specs.declared.roll.Roll.{Ghosts}
 use Rattle.session_rules.specs.declared.call.Call.{Call}
 use Rattle.session_rules.specs.declared.call.Call.TheVariants as call
 use Rattle.session_rules.specs.declared.call.Entry.{Entry}
+use Rattle.session_rules.specs.declared.reply.Reply.{Reply}
 use Rattle.session_rules.specs.declared.fixed.Fixed.{Fixed}
 use Rattle.session_rules.specs.States.{State}
 use Rattle.session_rules.specs.Histories.{after, state_after}
 use Rattle.session_rules.specs.declared.line.Line.{Line}
 use Rattle.session_rules.specs.declared.line.Line.TheVariants as line
-use Rattle.session_rules.specs.Tasks.{Task, does, exhausts, Held, Left, next_call, left, own}
+use Rattle.session_rules.specs.Tasks.{Task, does, exhausts, Held, Left, next_call, left, own, entry}
 use Rattle.share_spec.specs.Sets.{members}
 use Rattle.session_rules.specs.Courses.{to_do, sends, Follows, BreaksOff, serial_tasks, Settles, Unsettled, rounds}
 use Rattle.run_laws.specs.Leaving.{Leaves, idle}
@@ -19,11 +20,22 @@ use Rattle.session_core.specs.declared.session.Session.{Session}
 use Rattle.session_core.specs.declared.stop.Stop.{Stop}
 use Rattle.session_core.specs.declared.stop.Stop.TheVariants.{Spent, NoMemory}
 use Rattle.lane_workers.specs.declared.holding.Holding.{Holding}
+use Rattle.lane_workers.specs.Desks.{View, rules_of, state_seen}
 use Rattle.lane_workers.specs.Hands.{in_hand}
 
 -- ---- what was called
 
--- some entries stand behind a history, all of them caller 0's, and they are such as is said
+-- a desk has seen more calls: its own ones are such as is said, and others' between them where it isn't alone
+pub record Added (Are : List Entry → Type 0) (v w : View) : Type 0 where
+  pub more : List Entry
+  pub made : List Entry
+  pub seen : w.seen ≡ v.seen ++ more
+  pub mine : w.mine ≡ v.mine ++ made
+  pub its : own v.fixed.caller more ≡ made
+  pub alone : v.fixed.alone ≡ true → more ≡ made
+  pub are : Are made
+
+-- some entries stand behind the log of a session, all of them caller 0's, and they are such as is said
 pub record Acted (Are : List Entry → Type 0) (before now : List Entry) : Type 0 where
   pub made : List Entry
   pub log : now ≡ before ++ made
@@ -73,13 +85,42 @@ abbrev pub StopsFor : Stop → ℕ → List Entry → Call → Type 0
 StopsFor Spent most now next = length now ≡ most
 StopsFor NoMemory most now next = is_made_first next ≡ false → length now ≢ most
 
--- the entries are such as is said, by the call that would be next, at which it stopped
+-- the circuit in hand was given back, since there was no memory for its output or for bringing that
+pub record GaveBack (who : ℕ) (why : Stop) (next : Call) (back : List Entry) : Type 0 where
+  pub circuit : ℕ
+  pub reply : Reply
+  pub short : why ≡ NoMemory
+  pub unfinished : next ≡ call.Finish circuit
+  pub entry : back ≡ entry who (call.GiveBack circuit) reply ∷ []
+
+-- what was called once it had stopped: nothing, or that
+abbrev pub GivesBack : ℕ → Stop → Call → List Entry → Type 0
+GivesBack who why next back = (back ≡ []) ⊎ GaveBack who why next back
+
+-- a desk's own entries are such as is said, by the call that would be next, at which it stopped; and behind them
+-- stands what it gave back then
+pub record Broken (why : Stop) (Are : List Entry → Call → Type 0) (v w : View) : Type 0 where
+  pub more : List Entry
+  pub made : List Entry
+  pub back : List Entry
+  pub seen : w.seen ≡ v.seen ++ more
+  pub mine : w.mine ≡ v.mine ++ made ++ back
+  pub its : own v.fixed.caller more ≡ made ++ back
+  pub alone : v.fixed.alone ≡ true → more ≡ made ++ back
+  pub next : Call
+  pub are : Are made next
+  pub gives_back : GivesBack v.fixed.caller why next back
+  pub reason : StopsFor why v.fixed.known.most w.seen next
+
+-- so behind the log of a session
 pub record Halted (most : ℕ) (why : Stop) (Are : List Entry → Call → Type 0) (before now : List Entry) : Type 0 where
   pub made : List Entry
-  pub log : now ≡ before ++ made
+  pub back : List Entry
+  pub log : now ≡ before ++ made ++ back
   pub alone : own 0 made ≡ made
   pub next : Call
   pub are : Are made next
+  pub gives_back : GivesBack 0 why next back
   pub reason : StopsFor why most now next
 
 -- the first entries of those that settle a session, and not all
@@ -95,7 +136,7 @@ StopsLater f present lanes s es next =
 pub record AreFewSerial (f : Fixed) (present : List ℕ) (lanes : List (List Line)) (s : State) (es : List Entry) (next : Call) : Type 0 where
   pub begins : BreaksOff f.rows (serial_tasks present lanes) es next ⊎ StopsLater f present lanes s es next
 
--- ---- of a session
+-- ---- of a desk
 
 -- the task of a line
 abbrev pub loses : ℕ → Task
@@ -120,45 +161,47 @@ abbrev pub again : Bool → List Task
 again true = exhausts ∷ []
 again false = []
 
+-- what is done from one view to another: as much of some tasks that these are left, or all of them
+abbrev pub Doing : List Task → List Task → View → View → Type 0
+Doing ts rest v w = Added (Leaves (rules_of v).rows ts rest) v w
+
+abbrev pub Did : List Task → View → View → Type 0
+Did ts v w = Doing ts [] v w
+
+-- the first calls of some tasks are made, and not all
+abbrev pub BrokeOff : List Task → View → View → Stop → Type 0
+BrokeOff ts v w why = Broken why (BreaksOff (rules_of v).rows ts) v w
+
+-- so from what is in hand
+abbrev pub Going : Left → Left → View → View → Type 0
+Going from to v w = Added (Goes (rules_of v).rows from to) v w
+
+abbrev pub CutOff : Left → View → View → Stop → Type 0
+CutOff from v w why = Broken why (Cuts (rules_of v).rows from) v w
+
+-- a line is done, from what is in hand to what is in hand then
+abbrev pub DidLine : Line → Option Holding → View → View → Option Holding → Type 0
+DidLine x hand v w next = Going (line_left (in_hand (rules_of v) hand) x) (at_end (in_hand (rules_of v) next)) v w
+
+abbrev pub StoppedLine : Line → Option Holding → View → View → Stop → Type 0
+StoppedLine x hand v w why = CutOff (line_left (in_hand (rules_of v) hand) x) v w why
+
+-- tasks are done but for some, or all of them, whatever is in hand then
+abbrev pub Passing : List Task → List Task → View → View → Type 0
+Passing ts rest v w = Added (Passes (rules_of v).rows ts rest) v w
+
+abbrev pub Followed : List Task → View → View → Type 0
+Followed ts v w = Added (Follows (rules_of v).rows ts) v w
+
+-- a circuit was asked for, and evaluated if there was one; fewer are idle then, where nobody else acts
+pub record Worked (v w : View) (more : Bool) : Type 0 where
+  pub does : Doing (exhausts ∷ []) (again more) v w
+  pub line : Did (works ∷ []) v w
+  pub fewer : v.fixed.alone ≡ true → more ≡ true → idle (state_seen w) + 1 ≤ idle (state_seen v)
+
+-- ---- of a session
+
 module _ {R : Type 0} {K : Ghosts R} where
-  -- what is done from one session to another: as much of some tasks that these are left, or all of them
-  abbrev pub Doing : List Task → List Task → Session R K → Session R K → Type 0
-  Doing ts rest old new = Acted (Leaves (rules (known old).setting).rows ts rest) old.log.items new.log.items
-
-  abbrev pub Did : List Task → Session R K → Session R K → Type 0
-  Did ts old new = Doing ts [] old new
-
-  -- the first calls of some tasks are made, and not all
-  abbrev pub BrokeOff : List Task → Session R K → Session R K → Stop → Type 0
-  BrokeOff ts old new why = Halted (known old).most why (BreaksOff (rules (known old).setting).rows ts) old.log.items new.log.items
-
-  -- so from what is in hand
-  abbrev pub Going : Left → Left → Session R K → Session R K → Type 0
-  Going from to old new = Acted (Goes (rules (known old).setting).rows from to) old.log.items new.log.items
-
-  abbrev pub CutOff : Left → Session R K → Session R K → Stop → Type 0
-  CutOff from old new why = Halted (known old).most why (Cuts (rules (known old).setting).rows from) old.log.items new.log.items
-
-  -- a line is done, from what is in hand to what is in hand then
-  abbrev pub DidLine : Line → Option Holding → Session R K → Session R K → Option Holding → Type 0
-  DidLine x hand old new next = Going (line_left (in_hand (rules (known old).setting) hand) x) (at_end (in_hand (rules (known old).setting) next)) old new
-
-  abbrev pub StoppedLine : Line → Option Holding → Session R K → Session R K → Stop → Type 0
-  StoppedLine x hand old new why = CutOff (line_left (in_hand (rules (known old).setting) hand) x) old new why
-
-  -- tasks are done but for some, or all of them, whatever is in hand then
-  abbrev pub Passing : List Task → List Task → Session R K → Session R K → Type 0
-  Passing ts rest old new = Acted (Passes (rules (known old).setting).rows ts rest) old.log.items new.log.items
-
-  abbrev pub Followed : List Task → Session R K → Session R K → Type 0
-  Followed ts old new = Acted (Follows (rules (known old).setting).rows ts) old.log.items new.log.items
-
-  -- a circuit was asked for, and evaluated if there was one
-  pub record Worked (old new : Session R K) (more : Bool) : Type 0 where
-    pub does : Doing (exhausts ∷ []) (again more) old new
-    pub line : Did (works ∷ []) old new
-    pub fewer : more ≡ true → idle (state_of new) + 1 ≤ idle (state_of old)
-
   -- all that those who are present owe is to be sent
   abbrev pub all_send : Session R K → List Task
   all_send s = map sends (members (state_of s).present)

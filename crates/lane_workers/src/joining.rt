@@ -1,11 +1,12 @@
 ghost use Rattle.std.specs.Prelude.{◌≡◌, map, All, OnOk, IfErr};
 ghost use Rattle.session_rules.specs.Courses.{joins};
 ghost use Rattle.session_core.specs.Sessions.{IsParty};
-ghost use Rattle.session_core.specs.Calls.{known, about};
+ghost use Rattle.session_core.specs.Calls.{known};
 ghost use Rattle.lane_workers.specs.Acting.{AreParties, AreLanes};
+ghost use Rattle.lane_workers.specs.Desks.{session_view};
 ghost use Rattle.lane_workers.specs.Doing.{Did, BrokeOff, Served, StoppedServing};
 
-use crate::serving::serve_all;
+use crate::lanes::serve_all;
 use crate::settling::settle;
 use mod_ring::Ring;
 use party_roll::{Party, Roll};
@@ -16,9 +17,11 @@ use std::alloc::Global;
 /// Has some parties join, in their order.
 fn join_all<R: Roll>(alloc: Global, session: &mut Session<R>, present: &[u32]) -> Result<(), Stop>
     requires present { All (IsParty (known session.old).params.parties) present.now }
-    ensures about { about session.new ≡ about session.old }
-    ensures done { OnOk result (Did (map joins present.now) session.old session.new) }
-    ensures stopped { IfErr result (BrokeOff (map joins present.now) session.old session.new) }
+    ensures same { known session.new ≡ known session.old }
+    ensures done { OnOk result (Did (map joins present.now) (session_view session.old)
+        (session_view session.new)) }
+    ensures stopped { IfErr result (BrokeOff (map joins present.now) (session_view session.old)
+        (session_view session.new)) }
 {
     'parties: for p in present {
         session.join(alloc, 0, *p)?;
@@ -44,7 +47,7 @@ pub fn serial<R: Roll, P: Party>(
     requires parties { AreParties P.Party (known session.old) parties.now }
     requires present { All (IsParty (known session.old).params.parties) present.now }
     requires lanes { AreLanes (known session.old).params.parties lanes.now }
-    ensures about { about session.new ≡ about session.old }
+    ensures same { known session.new ≡ known session.old }
     ensures done { OnOk result (Served present.now lanes.now session.old session.new) }
     ensures stopped { IfErr result (StoppedServing present.now lanes.now session.old session.new) }
 {

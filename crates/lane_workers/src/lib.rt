@@ -10,12 +10,19 @@
 //! brought is what honest parties bring. Nothing is said of how much memory this takes.
 #![tactic(auto)]
 
+mod desk;
+mod gate;
+mod gated;
 mod holding;
 mod joining;
+mod lanes;
 mod sending;
 mod serving;
 mod settling;
 mod working;
 
+pub use desk::Desk;
+pub use gate::{Gate, OpenGate};
 pub use joining::serial;
+pub use lanes::{Surroundings, run_lane, serve_lane};
 pub use settling::settle;

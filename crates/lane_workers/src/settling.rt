@@ -3,8 +3,9 @@ ghost use Rattle.std.specs.List.{list_all};
 ghost use Rattle.session_rules.specs.Steps.{next_ready};
 ghost use Rattle.session_rules.specs.Courses.{is_over, is_settled as is_session_settled, round_tasks};
 ghost use Rattle.session_rules.specs.Grounds.{NoneOpened, CanSettle};
-ghost use Rattle.session_core.specs.Calls.{known, about, state_of};
+ghost use Rattle.session_core.specs.Calls.{known, state_of};
 ghost use Rattle.lane_workers.specs.Acting.{AreParties};
+ghost use Rattle.lane_workers.specs.Desks.{session_view};
 ghost use Rattle.lane_workers.specs.Doing.{Did, BrokeOff, Settled, StoppedSettling, all_send, rules_for};
 
 use crate::sending::send;
@@ -30,9 +31,11 @@ fn send_by_all<R: Roll, P: Party>(
 ) -> Result<(), Stop>
     requires ring { ring.now.params ≡ (known session.old).params }
     requires parties { AreParties P.Party (known session.old) parties.now }
-    ensures about { about session.new ≡ about session.old }
-    ensures done { OnOk result (Did (all_send session.old) session.old session.new) }
-    ensures stopped { IfErr result (BrokeOff (all_send session.old) session.old session.new) }
+    ensures same { known session.new ≡ known session.old }
+    ensures done { OnOk result (Did (all_send session.old) (session_view session.old)
+        (session_view session.new)) }
+    ensures stopped { IfErr result (BrokeOff (all_send session.old) (session_view session.old)
+        (session_view session.new)) }
 {
     let present = session.present();
     'parties: for party in parties {
@@ -52,10 +55,11 @@ fn round<R: Roll, P: Party>(
 ) -> Result<(), Stop>
     requires ring { ring.now.params ≡ (known session.old).params }
     requires parties { AreParties P.Party (known session.old) parties.now }
-    ensures about { about session.new ≡ about session.old }
-    ensures done { OnOk result (Did (round_tasks (state_of session.old)) session.old session.new) }
-    ensures stopped { IfErr result (BrokeOff (round_tasks (state_of session.old)) session.old
-        session.new) }
+    ensures same { known session.new ≡ known session.old }
+    ensures done { OnOk result (Did (round_tasks (state_of session.old))
+        (session_view session.old) (session_view session.new)) }
+    ensures stopped { IfErr result (BrokeOff (round_tasks (state_of session.old))
+        (session_view session.old) (session_view session.new)) }
 {
     send_by_all(alloc, session, ring, parties)?;
     work_off(alloc, session, ring)?;
@@ -69,7 +73,7 @@ fn round<R: Roll, P: Party>(
 /// The parties are all of the session's, in the order of their numbers; those that aren't present send nothing.
 /// Where a call, a share, an input or an output meets no memory, or all calls of the session are made, the calls
 /// before it stand: they are the first ones of those that settling makes. A circuit that was taken to be evaluated
-/// stays taken then: it isn't given back.
+/// is given back then, where it was memory that was wanting: that call stands behind them if it is answered.
 pub fn settle<R: Roll, P: Party>(
     alloc: Global,
     session: &mut Session<R>,
@@ -78,7 +82,7 @@ pub fn settle<R: Roll, P: Party>(
 ) -> Result<(), Stop>
     requires ring { ring.now.params ≡ (known session.old).params }
     requires parties { AreParties P.Party (known session.old) parties.now }
-    ensures about { about session.new ≡ about session.old }
+    ensures same { known session.new ≡ known session.old }
     ensures done { OnOk result (Settled session.old session.new) }
     ensures none_opened { OnOk result (NoneOpened (state_of session.new)) }
     ensures none_ready { OnOk result (next_ready (rules_for session.new) (state_of session.new)

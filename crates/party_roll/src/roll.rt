@@ -5,7 +5,7 @@ ghost use Rattle.draw_spec.specs.Streams.{party_seed};
 use crate::seeds::SeedRoll;
 
 /// Tells the public seed of a session, and, where it has them, the seeds of its parties.
-pub trait Roll: Send + Sync + Drop {
+pub trait Roll: Drop {
     // The seed from which the common polynomials are drawn.
     ghost public: { Self → List ℕ };
 

@@ -9,7 +9,6 @@ use Rattle.proto_names.specs.Instances.{instance}
 use Rattle.proto_names.specs.declared.instance.Instance.{Instance}
 use Rattle.proto_names.specs.declared.instance.Stage.{Stage}
 use Rattle.proto_names.specs.declared.instance.Stage.TheVariants.{Opened, Complete, Void}
-use Rattle.party_roll.specs.Seeds.{seeds_of as seeds_by}
 use Rattle.session_rules.specs.declared.call.Entry.{Entry}
 use Rattle.session_rules.specs.States.{State, circuit}
 use Rattle.session_rules.specs.Histories.{state_after}
@@ -37,35 +36,27 @@ places_more f bs line c e =
 
 -- ---- what a session tells of a script's circuit is what its report says
 
-parties_same : (a : Asked) (st : Standing) → setting st ≡ setting_asked a → st.params.parties ≡ a.numbers.parties
-unfolding setting_asked
-parties_same a st same = ap (λ (w : Setting). w.numbers.parties) same
-
-seeds_same : (a : Asked) (st : Standing) (master : List ℕ) → setting st ≡ setting_asked a → master ≡ a.master → seeds_of st master ≡ seeds_asked a
-unfolding seeds_by
-seeds_same a st master same roll = rw (parties_same a st same) (rw roll refl)
-
 circuit_same : (a : Asked) (st : Standing) (c : ℕ) → setting st ≡ setting_asked a → told_circuit (name_at a c) st c ≡ circuit_text a (state st) c
 unfolding told_circuit circuit_text
 circuit_same a st c same = ap (λ (w : Setting). state_line (name_at a c) (plain_at w c) (circuit (state st).circuits c)) same
 
-output_same : (a : Asked) (st : Standing) (master : List ℕ) (c : ℕ) → setting st ≡ setting_asked a → master ≡ a.master → told_output (name_at a c) st master c ≡ output_text a (state st) c
+output_same : (a : Asked) (st : Standing) (master : List ℕ) (c : ℕ) → setting st ≡ setting_asked a → seeds_of st master ≡ seeds_asked a → told_output (name_at a c) st master c ≡ output_text a (state st) c
 unfolding told_output output_text
-output_same a st master c same roll =
-    ap₂ (λ (w : Setting) (seeds : List (List ℕ)). cond (is_settled (circuit (state st).circuits c)) (output_line (name_at a c) (output_of w seeds (keys_in w seeds (state st).instances c) c)) [])
-    same (seeds_same a st master same roll)
+output_same a st master c same seeds =
+    ap₂ (λ (w : Setting) (told : List (List ℕ)). cond (is_settled (circuit (state st).circuits c)) (output_line (name_at a c) (output_of w told (keys_in w told (state st).instances c) c)) [])
+    same seeds
 
-instance_same : (a : Asked) (st : Standing) (master : List ℕ) (i : Instance) → setting st ≡ setting_asked a → master ≡ a.master → told_instance st master i ≡ instance_text a (state st) i
+instance_same : (a : Asked) (st : Standing) (master : List ℕ) (i : Instance) → setting st ≡ setting_asked a → seeds_of st master ≡ seeds_asked a → told_instance st master i ≡ instance_text a (state st) i
 unfolding told_instance told_digest instance_text
-instance_same a st master i same roll =
-    ap₂ (λ (w : Setting) (seeds : List (List ℕ)). instance_line i (polys_digest (sums_of w seeds (keys_in w seeds (state st).instances) i)))
-    same (seeds_same a st master same roll)
+instance_same a st master i same seeds =
+    ap₂ (λ (w : Setting) (told : List (List ℕ)). instance_line i (polys_digest (sums_of w told (keys_in w told (state st).instances) i)))
+    same seeds
 
 pub circuits_more : (a : Asked) (st : Standing) (bs : List ℕ) (c : ℕ) → setting st ≡ setting_asked a → (bs ++ flat_map (circuit_text a (state st)) (range_with_len 0 c)) ++ told_circuit (name_at a c) st c ≡ bs ++ flat_map (circuit_text a (state st)) (range_with_len 0 (c + 1))
 circuits_more a st bs c same = places_more (circuit_text a (state st)) bs _ c (circuit_same a st c same)
 
-pub outputs_more : (a : Asked) (st : Standing) (master bs : List ℕ) (c : ℕ) → setting st ≡ setting_asked a → master ≡ a.master → (bs ++ flat_map (output_text a (state st)) (range_with_len 0 c)) ++ told_output (name_at a c) st master c ≡ bs ++ flat_map (output_text a (state st)) (range_with_len 0 (c + 1))
-outputs_more a st master bs c same roll = places_more (output_text a (state st)) bs _ c (output_same a st master c same roll)
+pub outputs_more : (a : Asked) (st : Standing) (master bs : List ℕ) (c : ℕ) → setting st ≡ setting_asked a → seeds_of st master ≡ seeds_asked a → (bs ++ flat_map (output_text a (state st)) (range_with_len 0 c)) ++ told_output (name_at a c) st master c ≡ bs ++ flat_map (output_text a (state st)) (range_with_len 0 (c + 1))
+outputs_more a st master bs c same seeds = places_more (output_text a (state st)) bs _ c (output_same a st master c same seeds)
 
 pub instances_more : (st : Standing) (master bs : List ℕ) (is : List Instance) (k : ℕ) (d : Instance) → k < length is → (bs ++ flat_map (told_instance st master) (take k is)) ++ told_instance st master (get_or is k d) ≡ bs ++ flat_map (told_instance st master) (take (k + 1) is)
 instances_more st master bs is k d here =
@@ -110,13 +101,13 @@ each_same : (f g : Instance → List ℕ) (is : List Instance) → ((i : Instanc
 each_same f g [] same = refl
 each_same f g (i ∷ is) same = ap₂ (λ (s t : List ℕ). s ++ t) (same i) (each_same f g is same)
 
-pub whole : (a : Asked) (st : Standing) (master : List ℕ) (log : List Entry) → setting st ≡ setting_asked a → master ≡ a.master → state st ≡ state_after (rules_of st) log
+pub whole : (a : Asked) (st : Standing) (master : List ℕ) (log : List Entry) → setting st ≡ setting_asked a → seeds_of st master ≡ seeds_asked a → state st ≡ state_after (rules_of st) log
     → ((([] ++ flat_map (circuit_text a (state st)) (places a)) ++ flat_map (output_text a (state st)) (places a)) ++ flat_map (told_instance st master) (state st).instances) ++ flat_map event_line log ≡ report a log
 unfolding report report_in
-whole a st master log same roll now =
+whole a st master log same seeds now =
     let f = λ (s : State). flat_map (circuit_text a s) (places a) in
     let g = λ (s : State). flat_map (output_text a s) (places a) in
-    let told = each_same (told_instance st master) (instance_text a (state st)) (state st).instances (λ i. instance_same a st master i same roll) in
+    let told = each_same (told_instance st master) (instance_text a (state st)) (state st).instances (λ i. instance_same a st master i same seeds) in
     ap (λ t. f (state st) ++ g (state st) ++ t ++ flat_map event_line log) told
     ∙ ap (λ (s : State). report_in a s log) (now ∙ ap (λ (w : Setting). state_after (rules w) log) same)
 

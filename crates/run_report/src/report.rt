@@ -6,8 +6,8 @@ ghost use Rattle.session_rules.specs.Facts.{Numbered};
 ghost use Rattle.session_script.specs.Scripts.{asked};
 ghost use Rattle.session_state.specs.Standings.{setting, state};
 ghost use Rattle.event_lines.specs.Events.{event_line};
-ghost use Rattle.run_report.specs.Reports.{setting_asked, name_at, circuit_text, output_text, places, report};
-ghost use Rattle.run_report.specs.Told.{told_circuit, told_output, told_digest, told_instance};
+ghost use Rattle.run_report.specs.Reports.{setting_asked, seeds_asked, name_at, circuit_text, output_text, places, report};
+ghost use Rattle.run_report.specs.Told.{seeds_of, told_circuit, told_output, told_digest, told_instance};
 
 use crate::digests::polys_digest;
 use crate::lines::{circuit_line, open_line, output_line, refused_line};
@@ -108,7 +108,8 @@ fn push_outputs(
     session: &Session<SeedRoll>,
 ) -> Result<(), AllocError>
     requires setting { setting session.now.standing ≡ setting_asked (asked script.now) }
-    requires roll { session.now.roll.master ≡ script.now.master }
+    requires seeds { seeds_of session.now.standing session.now.roll.master
+        ≡ seeds_asked (asked script.now) }
     requires few { length script.now.circuits ≤ 64 }
     requires states { length (state session.now.standing).circuits ≡ length script.now.circuits }
     ensures { OnOk result (text.new.items
@@ -183,7 +184,8 @@ pub fn text(
     session: &Session<SeedRoll>,
 ) -> Result<Vec<u8>, AllocError>
     requires setting { setting session.now.standing ≡ setting_asked (asked script.now) }
-    requires roll { session.now.roll.master ≡ script.now.master }
+    requires seeds { seeds_of session.now.standing session.now.roll.master
+        ≡ seeds_asked (asked script.now) }
     ensures { IfOk result (λ text. text.items ≡ report (asked script.now) session.now.log.items) }
 {
     let mut text = Vec::new(alloc);

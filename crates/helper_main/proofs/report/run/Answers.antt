@@ -43,7 +43,7 @@ returns-in-Ok-clause-log c =
     let a = asked c.args.script.now in
     let before = c.in_ok-session.session in
     let now = c.serial.new.session in
-    let same = ap (λ z. z.known) c.serial.ensures.about in
+    let same = c.serial.ensures.same in
     let most = ap (λ k. k.most) same ∙ c.in_ok-session.ensures.most in
     log_is a (setting before.standing) (setting now.standing) before.log.items now.log.items c.as_slice-2.result.now c.as_slice-3.result.now c.in_ok-session.ensures.setting
     (ap (λ k. k.setting) same ∙ c.in_ok-session.ensures.setting) c.in_ok-session.ensures.log c.as_slice-2.ensures c.as_slice-3.ensures
@@ -54,7 +54,16 @@ unreachable-requires c =
     let a = asked c.args.script.now in
     let before = c.in_ok-session.session in
     let now = c.serial.new.session in
-    let same = ap (λ z. z.known) c.serial.ensures.about in
+    let same = c.serial.ensures.same in
     never_full a (setting before.standing) (setting now.standing) before.log.items now.log.items c.as_slice-2.result.now c.as_slice-3.result.now before.max_calls _ c.requires.accepted c.in_ok-session.ensures.setting
     (ap (λ k. k.setting) same ∙ c.in_ok-session.ensures.setting) c.in_ok-session.ensures.log c.as_slice-2.ensures c.as_slice-3.ensures c.in_ok-session.ensures.most
     now.legal c.in-Err-Spent.field-0-is c.in-Err-Spent.ensures.stopped
+
+pub returns-in-Ok-clause-setting : goal.returns-in-Ok-clause-setting
+returns-in-Ok-clause-setting c = ap (λ k. k.setting) c.serial.ensures.same ∙ c.in_ok-session.ensures.setting
+
+pub returns-in-Ok-clause-seeds : goal.returns-in-Ok-clause-seeds
+returns-in-Ok-clause-seeds c =
+    let a = asked c.args.script.now in
+    let before = c.in_ok-session.session in
+    ap (λ k. k.seeds) c.serial.ensures.same ∙ seeds_are a before.roll.master before.standing.params.parties c.in_ok-session.ensures.master (ap (λ (z : Params). z.parties) c.in_ok-session.ensures.params)

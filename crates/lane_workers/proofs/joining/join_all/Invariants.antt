@@ -1,12 +1,13 @@
 -- Some have joined, and those that are left are to join.
 use Rattle.std.proofs.Common.{◌≡◌, map, drop}
 use Rattle.session_rules.specs.Courses.{joins}
-use Rattle.session_core.specs.Calls.{about}
+use Rattle.session_core.specs.Calls.{known}
+use Rattle.lane_workers.specs.Desks.{session_view}
 use Rattle.lane_workers.specs.Doing.{Doing}
 use Rattle.lane_workers.proofs.joining.join_all.Given as goal
 
 abbrev pub invariant-parties : goal.invariant-parties
 invariant-parties g l = record {
-  about : about l.session ≡ about l.fn.session;
-  doing : Doing (map joins l.present) (map joins (drop l.p-index l.present)) l.fn.session l.session;
+  same : known l.session ≡ known l.fn.session;
+  doing : Doing (map joins l.present) (map joins (drop l.p-index l.present)) (session_view l.fn.session) (session_view l.session);
 }

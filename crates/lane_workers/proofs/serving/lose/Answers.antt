@@ -1,20 +1,21 @@
 use Rattle.std.proofs.Common.{refl, [], ◌∷◌}
 use Rattle.session_rules.specs.declared.call.Call.TheVariants as call
+use Rattle.lane_workers.specs.Desks.{nothing_handed}
 use Rattle.lane_workers.specs.Doing.{BrokeOff, loses}
-use Rattle.lane_workers.proofs.Going.{if_err, err_spent, begins, calls_on, stops_on}
+use Rattle.lane_workers.proofs.Going.{if_err, begins, calls_on, stops_on}
 use Rattle.lane_workers.proofs.serving.lose.Goals as goal
 
 pub returns-clause-done : goal.returns-clause-done
 returns-clause-done g c =
-    let old = c.args.session.now in
+    let v = g.D.Desk.view c.args.desk.now in
+    let w = g.D.Desk.view c.lose.new.self in
     let ts = loses c.args.p ∷ [] in
-    calls_on ts [] (loses c.args.p) (call.Lose c.args.p) _ old old c.lose.new.self (begins ts old) refl refl c.in_ok-lose.ensures.called.made
+    calls_on ts [] (loses c.args.p) (call.Lose c.args.p) _ nothing_handed _ v v w refl (begins ts v) refl refl c.in_ok-lose.ensures.turned.answered
 
 pub returns-in_err-lose-clause-stopped : goal.returns-in_err-lose-clause-stopped
 returns-in_err-lose-clause-stopped g c =
-    let old = c.args.session.now in
-    let new = c.lose.new.self in
-    let e = c.in_err-lose.ensures in
+    let v = g.D.Desk.view c.args.desk.now in
+    let w = g.D.Desk.view c.lose.new.self in
     let ts = loses c.args.p ∷ [] in
-    if_err c.from_residual.result _ (BrokeOff ts old new) c.from_residual.ensures.1
-    (stops_on ts [] (loses c.args.p) (call.Lose c.args.p) _ old old new refl (begins ts old) refl e.called.stopped (err_spent _ _ e.called.spent))
+    if_err c.from_residual.result _ (BrokeOff ts v w) c.from_residual.ensures.1
+    (stops_on ts [] (loses c.args.p) (call.Lose c.args.p) _ v v w refl (begins ts v) refl c.in_err-lose.ensures.turned.unanswered)

@@ -2,8 +2,8 @@ use Rattle.std.proofs.Common.{◌≡◌, ◌∙◌, sym, ap, subst, ℕ, zero, s
 use Rattle.std.specs.List.{range_with_len}
 use Rattle.std.proofs.lemmas.List.{get_or-map, length-map}
 use Rattle.session_rules.proofs.Weights.{range_length}
-use Rattle.session_core.specs.Calls.{known}
 use Rattle.lane_workers.specs.Acting.{Acts}
+use Rattle.lane_workers.specs.Desks.{known_of}
 use Rattle.lane_workers.proofs.serving.party_of.Goals as goal
 
 -- the number at a place of a range
@@ -15,7 +15,7 @@ range_at a (suc n) (suc k) d less = range_at (a + 1) n k d (omega (arith, less))
 pub bounds-parties-p : goal.bounds-parties-p
 bounds-parties-p g c =
     let numbers = g.P.Party.number in
-    let n = (known c.args.session.now).params.parties in
+    let n = (known_of (g.D.Desk.view c.args._desk.now)).params.parties in
     let long : length c.args.parties.now ≡ n = sym (length-map c.args.parties.now numbers) ∙ ap length c.requires.parties.numbers ∙ range_length 1 n in
     let some_ = c.requires.party.0 in
     let most = c.requires.party.1 in
@@ -24,14 +24,14 @@ bounds-parties-p g c =
 pub offset_bounds-parties-p : goal.offset_bounds-parties-p
 offset_bounds-parties-p g c =
     let numbers = g.P.Party.number in
-    let n = (known c.args.session.now).params.parties in
+    let n = (known_of (g.D.Desk.view c.args._desk.now)).params.parties in
     let long : length c.args.parties.now ≡ n = sym (length-map c.args.parties.now numbers) ∙ ap length c.requires.parties.numbers ∙ range_length 1 n in
     let most = c.requires.party.1 in
     omega (arith, long, most)
 
 pub returns-clause-acts : goal.returns-clause-acts
 returns-clause-acts g c =
-    let k = known c.args.session.now in
+    let k = known_of (g.D.Desk.view c.args._desk.now) in
     let numbers = g.P.Party.number in
     let long : length c.args.parties.now ≡ k.params.parties = sym (length-map c.args.parties.now numbers) ∙ ap length c.requires.parties.numbers ∙ range_length 1 k.params.parties in
     let some_ = c.requires.party.0 in
@@ -41,7 +41,7 @@ returns-clause-acts g c =
 
 pub returns-clause-number : goal.returns-clause-number
 returns-clause-number g c =
-    let k = known c.args.session.now in
+    let k = known_of (g.D.Desk.view c.args._desk.now) in
     let n = k.params.parties in
     let numbers = g.P.Party.number in
     let ps = c.args.parties.now in

@@ -13,4 +13,4 @@ outputs-preserved c =
     let number = c.outputs.number in
     let grown : c.push_output.new.text.items ≡ c.outputs.text.items ++ told_output c.name.result.now st master number = search rules in
     grown ∙ ap₂ (λ (bs name : List ℕ). bs ++ told_output name st master number) c.outputs.invariant c.name.ensures
-    ∙ outputs_more (asked c.args.script.now) st master c.args.text.now.items number c.requires.setting c.requires.roll
+    ∙ outputs_more (asked c.args.script.now) st master c.args.text.now.items number c.requires.setting c.requires.seeds

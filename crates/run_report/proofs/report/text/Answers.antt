@@ -41,4 +41,4 @@ returns c =
     let a = asked c.args.script.now in
     let joined : c.push_events.new.text.items ≡ [] ++ flat_map (circuit_text a (state st)) (places a) ++ flat_map (output_text a (state st)) (places a) ++ flat_map (told_instance st session.roll.master) (state st).instances ++ flat_map event_line session.log.items =
     search rules in
-    joined ∙ whole a st session.roll.master session.log.items c.requires.setting c.requires.roll session.state_is
+    joined ∙ whole a st session.roll.master session.log.items c.requires.setting c.requires.seeds session.state_is
