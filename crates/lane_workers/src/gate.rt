@@ -8,6 +8,7 @@ pub trait Gate {
 }
 
 /// Lets every call pass.
+#[derive(Drop)]
 pub struct OpenGate;
 
 impl Gate for OpenGate {

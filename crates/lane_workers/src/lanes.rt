@@ -18,6 +18,7 @@ use std::alloc::Global;
 
 /// What surrounds a lane: the ring, all parties of the session in the order of their numbers, and who serves it, by
 /// its number, behind which gate.
+#[derive(Drop)]
 pub struct Surroundings<'a, P: Party, G: Gate> {
     pub ring: &'a Ring,
     pub parties: &'a [P],
