@@ -7,6 +7,7 @@ ghost use Rattle.lane_tests.specs.Constants.{HasNoInput};
 use crate::failing::Failing;
 use crate::setting::open;
 use crate::short::Short;
+use crate::watching::Watching;
 use lane_workers::{OpenGate, Surroundings, run_lane, serve_lane};
 use mod_ring::Ring;
 use party_roll::{NoRoll, Party};
@@ -14,6 +15,7 @@ use session_core::{CircuitState, Entry, Reply, Session, Stop};
 use session_script::Line;
 use std::alloc::{AllocError, Global};
 use std::sync::Arc;
+use std::sync::atomic::Ordering::SeqCst;
 use std::test::Fail;
 
 /// What a call came to.
@@ -144,5 +146,30 @@ fn calls_by_lines(rt: HostRuntime) -> Result<(), Fail> {
         Told::Nothing,
     ];
     assert_eq!(rt; outcomes(alloc, &session)?.as_slice(), owed.as_slice());
+    Ok(())
+}
+
+#[test]
+fn passes_the_gate_round_each_call(rt: HostRuntime) -> Result<(), Fail> {
+    let alloc = rt.alloc();
+    let Some(mut session) = open(alloc, 10)? else {
+        panic!(rt; "no session")
+    };
+    let ring = Arc::try_clone(session.ring())?;
+    let parties = party_of(alloc, &session)?;
+    let gate = Watching::new();
+    let around = Surroundings {
+        ring: &ring,
+        parties: parties.as_slice(),
+        gate: &gate,
+        worker: 4,
+    };
+    let lane = [Line::Give, Line::Quit, Line::Work];
+    let said = run_lane(alloc, &mut session, &around, lane.as_slice());
+    assert!(rt; said.is_ok());
+    assert_eq!(rt; session.log().len(), 4);
+    assert_eq!(rt; gate.last.load(SeqCst), 4);
+    assert_eq!(rt; gate.inside.load(SeqCst), 0);
+    assert_eq!(rt; gate.faults.load(SeqCst), 0);
     Ok(())
 }

@@ -1,4 +1,4 @@
-//! The tests of lanes: at a desk whose call to finish a circuit meets no memory, and at a session.
+//! The tests of lanes: at a desk whose call to finish a circuit meets no memory, behind a gate, and at a session.
 //!
 //! They stand apart from `lane_workers` because a crate with tests is proved twice. No code stands here, and nothing
 //! else uses this crate.
@@ -12,3 +12,5 @@ mod lanes;
 mod setting;
 #[cfg(test)]
 mod short;
+#[cfg(test)]
+mod watching;
